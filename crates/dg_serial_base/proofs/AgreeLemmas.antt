@@ -1,10 +1,12 @@
 -- With honest frames a base mote agrees with its table, however it ends.
 use Rattle.std.proofs.Common.{◌≡◌, ℕ, suc, ◌*◌, ◌≤◌, Bool, true, List, [], ◌∷◌, ◌++◌, sym, subst, arith}
 use Rattle.std.proofs.Math.Nat.{mul-suc}
-use Rattle.std.specs.Prelude.{Option, Some, None, IsSomeAnd}
+use Rattle.std.specs.Prelude.{Option, Some, None, Result, Ok, Err, IsSomeAnd}
 use Rattle.std.specs.List.{AllByRecursion}
 use Rattle.dg_base.specs.declared.answers.Status.{Status}
-use Rattle.dg_base.specs.declared.answers.Status.TheVariants as status
+use Rattle.dg_outside.specs.Outside.{Outside}
+use Rattle.dg_end.specs.declared.ends.End.{End}
+use Rattle.dg_end.specs.declared.ends.End.TheVariants as ends
 use Rattle.dg_nor.specs.Device.{Device}
 use Rattle.dg_nor.specs.Trail.{Trail, Leaves}
 use Rattle.dg_nor.specs.Through.{Through}
@@ -18,7 +20,7 @@ use Rattle.dg_mote.specs.Effects.{tick_effect, frame_effect, reset_effect}
 use Rattle.dg_mote.specs.Agreement.{IsHonest}
 use Rattle.dg_mote.specs.Well.{StoreIsWell, IsWell, EffectIsWell}
 use Rattle.dg_serial_base.specs.BaseEvents.{Base, At, BaseEvent, Hears, Ticks, moment_at, draw_at, powered, power_effect, effect_of, after_base_event, BaseEventsRun}
-use Rattle.dg_serial_base.specs.Based.{BaseOutside, BaseCame, FlashStopped, AtPower, Later, BaseEndsBy, Based}
+use Rattle.dg_serial_base.specs.Based.{BaseCame, FlashStopped, AtPower, Later, BaseEndsBy, Based}
 use Rattle.dg_serial_base.specs.Agreeing.{HonestBaseEvent, HonestLine, StandsWell, ChipAgrees}
 
 -- what is known of motes that agree
@@ -88,21 +90,10 @@ module _ (laws : Laws) (table : List Row) (is : IsTable table) (b : Base) where
         stop_agrees (effect_of b m c.there d).trail between new
         (base_event_well c.there m d h.0 (some_well (λ x. IsWell table x c.there.store (b.step * c.there.events)) c.there.mote m on (came_well c))).way stops
 
-    ends_agree : (answer : Status) (text : List ℕ) (before now : BaseOutside) → BaseEndsBy answer b s input text before now → ChipAgrees table now.chip.image
-    ends_agree status.FlashFault text before now e = flash_agrees text before.chip now.chip e
-    ends_agree status.Done text before now e = came_agrees e.0 now.chip.image e.2
-    ends_agree status.Memory text before now e = came_agrees e.0 now.chip.image e.2
-    ends_agree status.Usage text before now e = came_agrees e.0 now.chip.image e.2
-    ends_agree status.BadInput text before now e = came_agrees e.0 now.chip.image e.2
-    ends_agree status.ReadFault text before now e = came_agrees e.0 now.chip.image e.2
-    ends_agree status.WriteFault text before now e = came_agrees e.0 now.chip.image e.2
-    ends_agree status.NotAVolume text before now e = came_agrees e.0 now.chip.image e.2
-    ends_agree status.Refused text before now e = came_agrees e.0 now.chip.image e.2
-    ends_agree status.LinkFault text before now e = came_agrees e.0 now.chip.image e.2
-    ends_agree status.TooLong text before now e = came_agrees e.0 now.chip.image e.2
-    ends_agree status.TooMany text before now e = came_agrees e.0 now.chip.image e.2
-    ends_agree status.NoBoard text before now e = came_agrees e.0 now.chip.image e.2
-    ends_agree status.NoImage text before now e = came_agrees e.0 now.chip.image e.2
+    ends_agree : (r : Result (Unit {0}) End) (text : List ℕ) (old new : Device) → BaseEndsBy r b s input text old new → ChipAgrees table new.image
+    ends_agree (Err ends.FlashFault) text old new e = flash_agrees text old new e
+    ends_agree (Ok u) text old new e = came_agrees e.0 new.image e.2
+    ends_agree (Err end) text old new e = came_agrees e.0 new.image e.2
 
-pub based_agrees : Laws → (answer : Status) (b : Base) (s : Store) (before now : BaseOutside) (x : Based answer b s before now) (table : List Row) → IsTable table → StoreIsWell table s → HonestLine table x.input → ChipAgrees table now.chip.image
-based_agrees laws answer b s before now x table is well honest = ends_agree laws table is b s well x.input honest answer x.text before now x.ends
+pub based_agrees : Laws → (status : Status) (b : Base) (s : Store) (old new : Device) (x y : Outside) (z : Based status b s old new x y) (table : List Row) → IsTable table → StoreIsWell table s → HonestLine table z.line.input → ChipAgrees table new.image
+based_agrees laws status b s old new x y z table is well honest = ends_agree laws table is b s well z.line.input honest z.outcome z.line.text old new z.line.by

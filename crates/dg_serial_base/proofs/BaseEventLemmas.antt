@@ -1,4 +1,4 @@
--- A base mote does one more event, or stops in it.
+-- A base mote does one more base_event, or stops in it.
 use Rattle.std.proofs.Common.{◌≡◌, ℕ, suc, ◌+◌, ◌≤◌, List, [], ◌∷◌, ◌++◌, length, refl, ap, sym, ◌∙◌, subst, append_assoc, append-nil, length-append, arith}
 use Rattle.std.specs.Prelude.{Option, Some, None, option_map, map, Result, Ok, Err, OnOk, IfSome}
 use Rattle.std.proofs.lemmas.Result.{IfOk-at_ok}
@@ -28,17 +28,17 @@ use Rattle.dg_serial_base.specs.Based.{IsPrefixOfInput}
 use Rattle.dg_serial_base.specs.BaseEvents.{Base, At, BaseEvent, Hears, Ticks, powered, moment_at, draw_at, effect_of, after_base_event, sent_too, line_sent}
 use Rattle.dg_serial_base.specs.inner.Standing.{Outset, code_at, BaseEventLeft, base_event_left, IsLeft, LeavesNone, StopsOn, FailedBy, EffectEnds, IsTime, Stood, IsStood, one_if, DoneOne, LacksIn, StopsInBaseEvent, BaseEventFails, BaseEventEnds, SendFails, StoppedBy, AreOnLine, BaseEventsHalted, CompletedOn}
 use Rattle.dg_serial_base.specs.declared.running.Running.{Running}
-use Rattle.dg_serial_base.specs.declared.stop.Stop.{Stop}
-use Rattle.dg_serial_base.specs.declared.stop.Stop.TheVariants as stop
+use Rattle.dg_end.specs.declared.ends.End.{End}
+use Rattle.dg_end.specs.declared.ends.End.TheVariants as ends
 use Rattle.dg_serial_base.proofs.RunLemmas.{run_goes, sent_one, said_one}
 use Rattle.dg_serial_base.proofs.StartLemmas.{effect_ends, frame_said}
 use Rattle.dg_node.specs.Hosts.{host}
 use Rattle.dg_node.specs.Nodes.{node_mote}
 use Rattle.dg_node.specs.Ends.{NodeEnd, NodeDone}
-use Rattle.dg_serial_base.specs.inner.Stops.{result_of}
+use Rattle.dg_serial_base.specs.inner.Ends.{result_of}
 use Rattle.dg_serial_base.proofs.WriteLemmas.{puts_then, puts_front_then}
 
--- ---- one event
+-- ---- one base_event
 
 module _ (b : Base) (s : Store) (done : List BaseEvent) (d : BaseEvent) (before : At) (v : Running) (c : List ℕ) (stood : Stood b s done v c before) where
   abbrev e : Effect
@@ -70,19 +70,15 @@ module _ (b : Base) (s : Store) (done : List BaseEvent) (d : BaseEvent) (before 
         stands = l.stands;
       }
 
-  fails : (why : Stop) (new : Device) → FailedBy why before.store e new → BaseEventFails why b s done d before new
-  fails stop.Flash new x = record { state = stood.state; on = stood.on; stops = x }
-  fails stop.NoImage new x = lacks new x
-  fails stop.Memory new x = x
-  fails stop.Read new x = x
-  fails stop.Write new x = x
-  fails stop.NotAVolume new x = x
-  fails stop.TooLong new x = x
+  fails : (why : End) (new : Device) → FailedBy why before.store e new → BaseEventFails why b s done d before new
+  fails ends.FlashFault new x = record { state = stood.state; on = stood.on; stops = x }
+  fails ends.NoImage new x = lacks new x
+  fails end new x = x
 
-  pub base_event_ends : (r : Result (Unit {0}) Stop) (u : Running) (new : Device) (frame : Option (List ℕ)) → IsTime u.timeline b (suc before.events)
+  pub base_event_ends : (r : Result (Unit {0}) End) (u : Running) (new : Device) (frame : Option (List ℕ)) → IsTime u.timeline b (suc before.events)
       → ((x : Unit {0}) → r ≡ Ok x → frame ≡ option_map frame_of e.sent) → EffectEnds r before.store e u.timeline.moment new (node_mote u.node) → BaseEventEnds r b s done d before (base_event_left u new frame)
-  base_event_ends (Ok x) u new frame time sent ends = one_done u new frame time (sent x refl) ends
-  base_event_ends (Err why) u new frame time sent ends = fails why new ends
+  base_event_ends (Ok x) u new frame time sent h = one_done u new frame time (sent x refl) h
+  base_event_ends (Err why) u new frame time sent h = fails why new h
 
   -- by what the node did
   pub base_event_done : (r : NodeEnd) (u : Running) (a new : Device) (frame : Option (List ℕ)) → IsTime u.timeline b (suc before.events) → Stands a.image before.store → NodeDone r frame e (host a (Some v.node)) (host new (Some u.node))
@@ -90,7 +86,7 @@ module _ (b : Base) (s : Store) (done : List BaseEvent) (d : BaseEvent) (before 
   base_event_done r u a new frame time stands x timely =
       base_event_ends (result_of r) u new frame time (frame_said frame e (Some v.node) a new r (Some u.node) x) (effect_ends frame e (Some v.node) a new r before.store u.node u.timeline.moment x stands timely)
 
--- ---- an event at the next moment
+-- ---- a base_event at the next moment
 
 pub timely_next : ((m : MoteState) (now then : ℕ) → now ≤ then → Timely m now → Timely m then) → (m : MoteState) (moment step new now : ℕ) → Timely m moment → now ≡ new → new ≡ moment + step → Timely m now
 timely_next law m moment step new now t p q = let le : moment ≤ now = omega (arith, p, q) in law m moment now le t
@@ -107,7 +103,7 @@ module _ (b : Base) (s : Store) (done : List BaseEvent) (before : At) (v : Runni
       base_event_done b s done d before v c stood r u a new frame time stands (subst (λ (e : Effect). NodeDone r frame e (host a (Some v.node)) (host new (Some u.node))) effect_is x)
       (subst (λ (n : ℕ). IfSome (effect_of b stood.state before d).mote (λ m. Timely m n)) is (subst (λ (e : Effect). IfSome e.mote (λ m. Timely m now)) effect_is timely))
 
-pub ends_stood : (r : Result (Unit {0}) Stop) (b : Base) (s : Store) (done : List BaseEvent) (d : BaseEvent) (before : At) (u : Running) (new : Device) (frame : Option (List ℕ))
+pub ends_stood : (r : Result (Unit {0}) End) (b : Base) (s : Store) (done : List BaseEvent) (d : BaseEvent) (before : At) (u : Running) (new : Device) (frame : Option (List ℕ))
     → BaseEventEnds r b s done d before (base_event_left u new frame) → OnOk r (IsStood u new.image)
 ends_stood (Ok x) b s done d before u new frame one = (b, s, done ++ d ∷ [], one.there, one.stood)
 ends_stood (Err why) b s done d before u new frame one = tt
@@ -139,12 +135,12 @@ frame_longs {o} sent is = subst (λ (x : Option (List ℕ)). IfSome x (λ f. 1 �
 
 -- ---- and what is written
 
--- an event that failed is the last one
-pub base_event_halts : (why : Stop) (a : Outset) (done : List BaseEvent) (d : BaseEvent) (before : At) (v : Running) (c : List ℕ) (now : Option (List ℕ)) (new : Device)
+-- a base_event that failed is the last one
+pub base_event_halts : (why : End) (a : Outset) (done : List BaseEvent) (d : BaseEvent) (before : At) (v : Running) (c : List ℕ) (now : Option (List ℕ)) (new : Device)
     → Stood a.base a.store done v c before → Puts a.written now (line_sent before) → AreOnLine before → BaseEventFails why a.base a.store done d before new → BaseEventsHalted why a (done ++ d ∷ []) now new
-base_event_halts stop.Flash a done d before v c now new stood put fits x =
+base_event_halts ends.FlashFault a done d before v c now new stood put fits x =
     record { done = done; rest = d ∷ []; parts = refl; there = before; run = stood.run; fits = fits; by = (x.state, d, [], x.on, refl, put, x.stops) }
-base_event_halts stop.NoImage a done d before v c now new stood put fits x =
+base_event_halts ends.NoImage a done d before v c now new stood put fits x =
     record {
       done = done ++ d ∷ [];
       rest = [];
@@ -154,23 +150,17 @@ base_event_halts stop.NoImage a done d before v c now new stood put fits x =
       fits = subst (λ (sent : List Message). AllByRecursion IsOnLine (map frame_of sent)) (sym x.sent) fits;
       by = (x.none, subst (λ (sent : List Message). Puts a.written now (stuffed_line (map frame_of sent))) (sym x.sent) put, x.stands);
     }
-base_event_halts stop.Memory a done d before v c now new stood put fits x = absurd x
-base_event_halts stop.Read a done d before v c now new stood put fits x = absurd x
-base_event_halts stop.Write a done d before v c now new stood put fits x = absurd x
-base_event_halts stop.NotAVolume a done d before v c now new stood put fits x = absurd x
-base_event_halts stop.TooLong a done d before v c now new stood put fits x = absurd x
+base_event_halts end a done d before v c now new stood put fits x = absurd x
 
-stopped_more : (why : Stop) (b : Base) (there : At) (rest more : List BaseEvent) (first now : Option (List ℕ)) (new : Device) → StoppedBy why b there rest first now new → StoppedBy why b there (rest ++ more) first now new
-stopped_more stop.Memory b there rest more first now new x = x
-stopped_more stop.Write b there rest more first now new x = x
-stopped_more stop.NoImage b there rest more first now new x = x
-stopped_more stop.Flash b there rest more first now new x = (x.0, x.1, x.2 ++ more, x.3, ap (λ (ds : List BaseEvent). ds ++ more) x.4, x.5, x.6)
-stopped_more stop.Read b there rest more first now new x = x
-stopped_more stop.NotAVolume b there rest more first now new x = x
-stopped_more stop.TooLong b there rest more first now new x = x
+stopped_more : (why : End) (b : Base) (there : At) (rest more : List BaseEvent) (first now : Option (List ℕ)) (new : Device) → StoppedBy why b there rest first now new → StoppedBy why b there (rest ++ more) first now new
+stopped_more ends.Memory b there rest more first now new x = x
+stopped_more ends.WriteFault b there rest more first now new x = x
+stopped_more ends.NoImage b there rest more first now new x = x
+stopped_more ends.FlashFault b there rest more first now new x = (x.0, x.1, x.2 ++ more, x.3, ap (λ (ds : List BaseEvent). ds ++ more) x.4, x.5, x.6)
+stopped_more end b there rest more first now new x = absurd x
 
--- it halted, whatever events were to follow
-pub halted_more : (why : Stop) (a : Outset) (all more : List BaseEvent) (now : Option (List ℕ)) (new : Device) → BaseEventsHalted why a all now new → BaseEventsHalted why a (all ++ more) now new
+-- it halted, whatever base_events were to follow
+pub halted_more : (why : End) (a : Outset) (all more : List BaseEvent) (now : Option (List ℕ)) (new : Device) → BaseEventsHalted why a all now new → BaseEventsHalted why a (all ++ more) now new
 halted_more why a all more now new h =
     record {
       done = h.done;
@@ -182,7 +172,7 @@ halted_more why a all more now new h =
       by = stopped_more why a.base h.there h.rest more a.written now new h.by;
     }
 
--- ---- an event, and what it sent is written to the line
+-- ---- a base_event, and what it sent is written to the line
 
 all_and_one : (frames : List (List ℕ)) (frame : Option (List ℕ)) → AllByRecursion IsOnLine frames → IfSome frame IsOnLine → AllByRecursion IsOnLine (frames ++ one_if frame)
 all_and_one [] None all one = tt
@@ -190,7 +180,7 @@ all_and_one [] (Some frame) all one = (one, tt)
 all_and_one (f ∷ frames) frame all one = (all.0, all_and_one frames frame all.1 one)
 
 module _ (a : Outset) (done : List BaseEvent) (d : BaseEvent) (before : At) (old now : Option (List ℕ)) (put : Puts a.written old (line_sent before)) (fits : AreOnLine before) where
-  -- what is on the line after the event
+  -- what is on the line after the base_event
   said_then : (there : At) (frame : Option (List ℕ)) → map frame_of there.sent ≡ map frame_of before.sent ++ one_if frame → line_sent there ≡ line_sent before ++ stuffed_line (one_if frame)
   said_then there frame e = ap stuffed_line e ∙ said_one (map frame_of before.sent) (one_if frame)
 
@@ -207,20 +197,16 @@ module _ (a : Outset) (done : List BaseEvent) (d : BaseEvent) (before : At) (old
         fits = fits_then one.there left.frame one.sent frame;
       }
 
-  halts_behind : (why : Stop) (left : BaseEventLeft) → IfSome left.frame IsOnLine → (one : DoneOne a.base a.store done d before left) → StoppedBy why a.base one.there [] a.written now left.chip → BaseEventsHalted why a (done ++ d ∷ []) now left.chip
+  halts_behind : (why : End) (left : BaseEventLeft) → IfSome left.frame IsOnLine → (one : DoneOne a.base a.store done d before left) → StoppedBy why a.base one.there [] a.written now left.chip → BaseEventsHalted why a (done ++ d ∷ []) now left.chip
   halts_behind why left frame one by =
       record { done = done ++ d ∷ []; rest = []; parts = append-nil (done ++ d ∷ []); there = one.there; run = one.stood.run; fits = fits_then one.there left.frame one.sent frame; by = by }
 
-  pub send_fails : (why : Stop) (left : BaseEventLeft) → IfSome left.frame IsOnLine → DoneOne a.base a.store done d before left → SendFails why (stuffed_line (one_if left.frame)) old now → BaseEventsHalted why a (done ++ d ∷ []) now left.chip
-  send_fails stop.Write left frame one w =
+  pub send_fails : (why : End) (left : BaseEventLeft) → IfSome left.frame IsOnLine → DoneOne a.base a.store done d before left → SendFails why (stuffed_line (one_if left.frame)) old now → BaseEventsHalted why a (done ++ d ∷ []) now left.chip
+  send_fails ends.WriteFault left frame one w =
       let x = puts_front_then a.written old now (line_sent before) (stuffed_line (one_if left.frame)) put w in
-      halts_behind stop.Write left frame one
+      halts_behind ends.WriteFault left frame one
       (x.text, x.put, subst (IsPrefixOfInput x.text) (sym (said_then one.there left.frame one.sent)) x.front, one.stood.mote.mounted.stands)
-  send_fails stop.Memory left frame one w =
-      halts_behind stop.Memory left frame one
+  send_fails ends.Memory left frame one w =
+      halts_behind ends.Memory left frame one
       (line_sent before, w ∙ put, (stuffed_line (one_if left.frame), sym (said_then one.there left.frame one.sent)), one.stood.mote.mounted.stands)
-  send_fails stop.Flash left frame one w = absurd w
-  send_fails stop.NoImage left frame one w = absurd w
-  send_fails stop.Read left frame one w = absurd w
-  send_fails stop.NotAVolume left frame one w = absurd w
-  send_fails stop.TooLong left frame one w = absurd w
+  send_fails end left frame one w = absurd w

@@ -1,9 +1,15 @@
 -- Whatever bytes its line brings, a base mote over a consistent chip leaves it consistent, however it ends.
 use Rattle.std.proofs.Common.{◌≡◌, ◌≢◌, ℕ, Bool, true, List, [], ◌∷◌, length, take, Option, Some, None, IfSome, sym, ap, subst, ◌∙◌}
-use Rattle.std.specs.Prelude.{IsSome, IsSomeAnd}
+use Rattle.std.specs.Prelude.{Result, Ok, Err, IsSome, IsSomeAnd}
 use Rattle.dg_base.specs.Sizes.{most_input}
 use Rattle.dg_base.specs.declared.answers.Status.{Status}
-use Rattle.dg_base.specs.declared.answers.Status.TheVariants as status
+use Rattle.dg_base.specs.declared.answers.Status.TheVariants as statuses
+use Rattle.dg_outside.specs.Outside.{OutputState, Outside}
+use Rattle.dg_end.specs.Lines.{outcome_status, finish_line}
+use Rattle.dg_end.specs.Writes.{WritesEnd}
+use Rattle.dg_end.specs.declared.ends.End.{End}
+use Rattle.dg_end.specs.declared.ends.End.TheVariants as ends
+use Rattle.dg_end.proofs.AnswerLemmas.{written_status}
 use Rattle.dg_nor.specs.Device.{Device}
 use Rattle.dg_nor.specs.Trail.{Trail, Leaves, last, joined}
 use Rattle.dg_nor.specs.Through.{Through}
@@ -28,7 +34,7 @@ use Rattle.dg_mote.specs.declared.mote.Did.{Did}
 use Rattle.dg_mote.specs.declared.mote.Did.TheVariants.{Sent, Idle, Restart}
 use Rattle.dg_mote.proofs.KeepLemmas.{through_then, through_both}
 use Rattle.dg_serial_base.specs.BaseEvents.{Base, At, BaseEvent, Hears, Ticks, moment_at, draw_at, powered, power_effect, effect_of, after_base_event, base_events_of, BaseEventsRun}
-use Rattle.dg_serial_base.specs.Based.{BaseOutside, BaseCame, FlashStopped, AtPower, Later, BaseEndsBy, Based}
+use Rattle.dg_serial_base.specs.Based.{BaseCame, FlashStopped, AtPower, Later, BaseEndsBy, Based}
 use Rattle.dg_serial_base.specs.Consistency.{BaseStartsSound, AllStartSound, BaseStaysConsistent}
 use Rattle.dg_serial_base.proofs.AgreeLemmas.{some_well}
 
@@ -157,35 +163,29 @@ module _ (golden : Row) (laws : Laws golden) where
         flash_chip text old new (Later c between m d more on rest same stands stops) =
             stop_chip (effect_of b m c.there d).trail between new (base_event_of c.there m d (came_known c) on).way stops
 
-        ends_chip : (answer : Status) (text : List ℕ) (before now : BaseOutside) → BaseEndsBy answer b s input text before now → ChipIsConsistent golden now.chip.image
-        ends_chip status.FlashFault text before now e = flash_chip text before.chip now.chip e
-        ends_chip status.Done text before now e = came_chip e.0 now.chip.image e.2
-        ends_chip status.Memory text before now e = came_chip e.0 now.chip.image e.2
-        ends_chip status.Usage text before now e = came_chip e.0 now.chip.image e.2
-        ends_chip status.BadInput text before now e = came_chip e.0 now.chip.image e.2
-        ends_chip status.ReadFault text before now e = came_chip e.0 now.chip.image e.2
-        ends_chip status.WriteFault text before now e = came_chip e.0 now.chip.image e.2
-        ends_chip status.NotAVolume text before now e = came_chip e.0 now.chip.image e.2
-        ends_chip status.Refused text before now e = came_chip e.0 now.chip.image e.2
-        ends_chip status.LinkFault text before now e = came_chip e.0 now.chip.image e.2
-        ends_chip status.TooLong text before now e = came_chip e.0 now.chip.image e.2
-        ends_chip status.TooMany text before now e = came_chip e.0 now.chip.image e.2
-        ends_chip status.NoBoard text before now e = came_chip e.0 now.chip.image e.2
-        ends_chip status.NoImage text before now e = came_chip e.0 now.chip.image e.2
+        ends_chip : (r : Result (Unit {0}) End) (text : List ℕ) (old new : Device) → BaseEndsBy r b s input text old new → ChipIsConsistent golden new.image
+        ends_chip (Err ends.FlashFault) text old new e = flash_chip text old new e
+        ends_chip (Ok u) text old new e = came_chip e.0 new.image e.2
+        ends_chip (Err end) text old new e = came_chip e.0 new.image e.2
 
         is_on : (o : Option MoteState) → IsSomeAnd o (λ m. AsksForKnown m.mode) → o ≡ None → ⊥
         is_on None some e = some
         is_on (Some m) some e = absurd cc
 
-        never_none : (answer : Status) (text : List ℕ) (before now : BaseOutside) → BaseEndsBy answer b s input text before now → answer ≢ status.NoImage
-        never_none answer text before now e is =
-            let x = subst (λ (t : Status). BaseEndsBy t b s input text before now) is e in
-            is_on x.0.there.mote (came_known x.0).mote x.1.0
+        -- no line comes to a start without an image
+        none_by : (r : Result (Unit {0}) End) (text : List ℕ) (old new : Device) → BaseEndsBy r b s input text old new → statuses.NoImage ≢ outcome_status r
+        none_by (Ok u) text old new e is = cc
+        none_by (Err ends.NoImage) text old new e is = is_on e.0.there.mote (came_known e.0).mote e.1.0
+        none_by (Err end) text old new e is = cc
 
-pub based_consistent : (golden : Row) → Laws golden → (answer : Status) (b : Base) (s : Store) (before now : BaseOutside) (x : Based answer b s before now) → StoreIsConsistent golden s → BaseStaysConsistent golden answer b s x.input now.chip.image
-based_consistent golden laws answer b s before now x p = record {
+        never_none : (status : Status) (r : Result (Unit {0}) End) (text : List ℕ) (old new : Device) (u v : OutputState) → BaseEndsBy r b s input text old new → WritesEnd status r u v → status ≢ statuses.NoImage
+        never_none status r text old new u v e told is =
+            none_by r text old new e (sym is ∙ written_status status (outcome_status r) (finish_line r) u v told (λ w. let x : statuses.NoImage ≡ statuses.WriteFault = sym is ∙ w in cc) (λ m. let x : statuses.NoImage ≡ statuses.Memory = sym is ∙ m in cc))
+
+pub based_consistent : (golden : Row) → Laws golden → (status : Status) (b : Base) (s : Store) (old new : Device) (x y : Outside) (z : Based status b s old new x y) → StoreIsConsistent golden s → BaseStaysConsistent golden status b s z.line.input new.image
+based_consistent golden laws status b s old new x y z p = record {
   power = (power_holds golden laws b s p).starts;
-  base_events = all_sound golden laws b (base_events_of (take most_input x.input)) (powered b s) (powered_known golden laws b s p);
-  found = never_none golden laws b s p x.input answer x.text before now x.ends;
-  chip = ends_chip golden laws b s p x.input answer x.text before now x.ends;
+  base_events = all_sound golden laws b (base_events_of (take most_input z.line.input)) (powered b s) (powered_known golden laws b s p);
+  found = never_none golden laws b s p z.line.input status z.outcome z.line.text old new z.between y.output z.line.by z.told;
+  chip = ends_chip golden laws b s p z.line.input z.outcome z.line.text old new z.line.by;
 }

@@ -1,6 +1,6 @@
 -- A line begins after power-on.
-use Rattle.std.proofs.Common.{◌≡◌, ℕ, List, [], refl, ap, sym, subst, inr}
-use Rattle.std.specs.Prelude.{Result, Ok, Err, map}
+use Rattle.std.proofs.Common.{◌≡◌, ℕ, List, [], refl, ap, sym, subst}
+use Rattle.std.specs.Prelude.{map}
 use Rattle.std.specs.List.{AllByRecursion}
 use Rattle.dg_base.specs.Outside.{Puts}
 use Rattle.dg_nor.specs.Device.{Device}
@@ -10,11 +10,8 @@ use Rattle.dg_frame.specs.declared.Message.{Message}
 use Rattle.dg_serial.specs.Line.{flag_split, items, stuffed_line, IsOnLine}
 use Rattle.dg_serial.specs.Reading.{FrameReading, reading_behind}
 use Rattle.dg_serial_base.specs.BaseEvents.{Base, BaseEvent, base_events_of, powered}
-use Rattle.dg_serial_base.specs.Based.{BaseOutside}
-use Rattle.dg_serial_base.specs.inner.Standing.{Outset, code_on_line, Stood, StreamPlayed, InputEnds}
-use Rattle.dg_serial_base.specs.inner.Ending.{outset_of, LineEnds}
+use Rattle.dg_serial_base.specs.inner.Standing.{Outset, code_on_line, Stood, StreamPlayed}
 use Rattle.dg_serial_base.specs.declared.running.Running.{Running}
-use Rattle.dg_serial_base.specs.declared.stop.Stop.{Stop}
 use Rattle.dg_serial_base.proofs.WriteLemmas.{puts_nothing}
 
 none_told : base_events_of [] ≡ []
@@ -34,8 +31,3 @@ first_played a v line new l stood silent =
         fits = subst (λ (sent : List Message). AllByRecursion IsOnLine (map frame_of sent)) (sym silent) tt;
       };
     }
-
-pub line_goes : (r : Result (Unit {0}) Stop) (b : Base) (s : Store) (before now : BaseOutside) (v : Running) (line : FrameReading) → InputEnds r (outset_of b s before) before.left now.left (code_on_line now.written v line now.chip)
-    → LineEnds r b s before now
-line_goes (Ok x) b s before now v line ends = record { mote = v; reading = line; ends = ends }
-line_goes (Err why) b s before now v line ends = inr (record { mote = v; reading = line; ends = ends })

@@ -7,70 +7,51 @@ use Rattle.dg_volume.specs.Store.{Store}
 use Rattle.dg_serial.specs.Line.{stuffed_line, IsOnLine}
 use Rattle.dg_serial.specs.Reading.{FrameReading, items_told, Feeds}
 use Rattle.dg_serial.specs.declared.unstuffing.Fed.{Fed}
-use Rattle.dg_serial_base.specs.BaseEvents.{Base, At, BaseEvent, Ticks, base_events_of_items, base_events_of}
+use Rattle.dg_serial_base.specs.BaseEvents.{Base, At, BaseEvent, Ticks, base_events_of}
+use Rattle.dg_serial_base.specs.inner.Standing.{base_events_of_items}
 use Rattle.dg_serial_base.specs.inner.Standing.{Calm, CountsBy, Counts, Outset, CodeAt, code_at, LineAt, BaseEventLeft, WritesBy, ReadsBy, ReadCounts, one_if, DoneOne, BaseEventFails, SendFails, SendEnds, BaseEventsHalted, CompletedOn, ContinueEnds, StreamPlayed, StreamEnds}
-use Rattle.dg_serial_base.specs.declared.stop.Stop.{Stop}
-use Rattle.dg_serial_base.specs.declared.stop.Stop.TheVariants as stop
+use Rattle.dg_end.specs.declared.ends.End.{End}
+use Rattle.dg_end.specs.declared.ends.End.TheVariants as ends
 use Rattle.dg_serial_base.proofs.BaseEventLemmas.{sent_goes, send_fails}
 use Rattle.dg_serial_base.proofs.LineLemmas.{GoOn, went_along, halted_along, base_events_longer, halted_front}
 
 -- ---- a tick
 
-pub pass_goes : (r : Result (Unit {0}) Stop) (a : Outset) (done : List BaseEvent) (old : CodeAt) (now : Option (List ℕ)) (left : BaseEventLeft) (went : CompletedOn a done old)
+pub pass_goes : (r : Result (Unit {0}) End) (a : Outset) (done : List BaseEvent) (old : CodeAt) (now : Option (List ℕ)) (left : BaseEventLeft) (went : CompletedOn a done old)
     → IfSome left.frame IsOnLine → DoneOne a.base a.store done Ticks went.there left → SendEnds r (stuffed_line (one_if left.frame)) old.written now → ContinueEnds r a (done ++ Ticks ∷ []) (code_at now left.mote left.chip)
 pass_goes (Ok x) a done old now left went frame one w = sent_goes a done Ticks went.there old.written now went.put went.fits left frame one w
 pass_goes (Err why) a done old now left went frame one w = send_fails a done Ticks went.there old.written now went.put went.fits why left frame one w
 
 -- a write stops no chip
-send_calm : (why : Stop) (text : List ℕ) (before now : Option (List ℕ)) (a b : Device) → Calm a b → SendFails why text before now → CountsBy why a b
-send_calm stop.Write text before now a b calm w = calm
-send_calm stop.Memory text before now a b calm w = calm
-send_calm stop.Flash text before now a b calm w = absurd w
-send_calm stop.NoImage text before now a b calm w = absurd w
-send_calm stop.Read text before now a b calm w = absurd w
-send_calm stop.NotAVolume text before now a b calm w = absurd w
-send_calm stop.TooLong text before now a b calm w = absurd w
+send_calm : (why : End) (text : List ℕ) (before now : Option (List ℕ)) (a b : Device) → Calm a b → SendFails why text before now → CountsBy why a b
+send_calm ends.FlashFault text before now a b calm w = absurd w
+send_calm end text before now a b calm w = calm
 
-pub send_counts : (r : Result (Unit {0}) Stop) (text : List ℕ) (before now : Option (List ℕ)) (a b : Device) → Calm a b → SendEnds r text before now → Counts r a b
+pub send_counts : (r : Result (Unit {0}) End) (text : List ℕ) (before now : Option (List ℕ)) (a b : Device) → Calm a b → SendEnds r text before now → Counts r a b
 send_counts (Ok x) text before now a b calm w = calm
 send_counts (Err why) text before now a b calm w = send_calm why text before now a b calm w
 
--- an event that failed wrote nothing
-pub write_calm : (why : Stop) (b : Base) (s : Store) (done : List BaseEvent) (d : BaseEvent) (before : At) (new : Device) (n : ℕ) → BaseEventFails why b s done d before new → WritesBy why n n
-write_calm stop.Flash b s done d before new n x = refl
-write_calm stop.NoImage b s done d before new n x = refl
-write_calm stop.Memory b s done d before new n x = refl
-write_calm stop.Read b s done d before new n x = refl
-write_calm stop.Write b s done d before new n x = absurd x
-write_calm stop.NotAVolume b s done d before new n x = refl
-write_calm stop.TooLong b s done d before new n x = refl
+-- a base_event that failed wrote nothing
+pub write_calm : (why : End) (b : Base) (s : Store) (done : List BaseEvent) (d : BaseEvent) (before : At) (new : Device) (n : ℕ) → BaseEventFails why b s done d before new → WritesBy why n n
+write_calm ends.WriteFault b s done d before new n x = absurd x
+write_calm end b s done d before new n x = refl
 
 -- and nothing was read
-pub read_calm : (why : Stop) (b : Base) (s : Store) (done : List BaseEvent) (d : BaseEvent) (before : At) (new : Device) (n : ℕ) → BaseEventFails why b s done d before new → ReadsBy why n n
-read_calm stop.Flash b s done d before new n x = refl
-read_calm stop.NoImage b s done d before new n x = refl
-read_calm stop.Memory b s done d before new n x = refl
-read_calm stop.Write b s done d before new n x = refl
-read_calm stop.Read b s done d before new n x = absurd x
-read_calm stop.NotAVolume b s done d before new n x = refl
-read_calm stop.TooLong b s done d before new n x = refl
+pub read_calm : (why : End) (b : Base) (s : Store) (done : List BaseEvent) (d : BaseEvent) (before : At) (new : Device) (n : ℕ) → BaseEventFails why b s done d before new → ReadsBy why n n
+read_calm ends.ReadFault b s done d before new n x = absurd x
+read_calm end b s done d before new n x = refl
 
-send_unread : (why : Stop) (text : List ℕ) (before now : Option (List ℕ)) (n : ℕ) → SendFails why text before now → ReadsBy why n n
-send_unread stop.Write text before now n w = refl
-send_unread stop.Memory text before now n w = refl
-send_unread stop.Flash text before now n w = absurd w
-send_unread stop.NoImage text before now n w = absurd w
-send_unread stop.Read text before now n w = absurd w
-send_unread stop.NotAVolume text before now n w = absurd w
-send_unread stop.TooLong text before now n w = absurd w
+send_unread : (why : End) (text : List ℕ) (before now : Option (List ℕ)) (n : ℕ) → SendFails why text before now → ReadsBy why n n
+send_unread ends.ReadFault text before now n w = absurd w
+send_unread end text before now n w = refl
 
-pub send_reads : (r : Result (Unit {0}) Stop) (text : List ℕ) (before now : Option (List ℕ)) (n : ℕ) → SendEnds r text before now → ReadCounts r n n
+pub send_reads : (r : Result (Unit {0}) End) (text : List ℕ) (before now : Option (List ℕ)) (n : ℕ) → SendEnds r text before now → ReadCounts r n n
 send_reads (Ok x) text before now n w = refl
 send_reads (Err why) text before now n w = send_unread why text before now n w
 
 -- ---- a byte
 
-pub byte_goes : (r : Result (Unit {0}) Stop) (a : Outset) (stream : List ℕ) (byte : ℕ) (now : LineAt) (before : FrameReading) (fed : Fed) → Feeds stream byte fed before → now.reading ≡ before
+pub byte_goes : (r : Result (Unit {0}) End) (a : Outset) (stream : List ℕ) (byte : ℕ) (now : LineAt) (before : FrameReading) (fed : Fed) → Feeds stream byte fed before → now.reading ≡ before
     → ContinueEnds r a (base_events_of stream ++ base_events_of_items (items_told fed)) now.code → StreamEnds r a (stream ++ byte ∷ []) now
 byte_goes (Ok x) a stream byte now before fed f l g =
     record { line = l ∙ f.behind; went = went_along a (base_events_of stream ++ base_events_of_items (items_told fed)) (base_events_of (stream ++ byte ∷ [])) now.code (base_events_longer stream byte fed before f) g }
@@ -88,7 +69,7 @@ next_byte stream bytes i lt = append_assoc stream (take i bytes) (get_or bytes i
 pub front_bytes : (stream bytes : List ℕ) (i : ℕ) → (stream ++ take i bytes) ++ drop i bytes ≡ stream ++ bytes
 front_bytes stream bytes i = append_assoc stream (take i bytes) (drop i bytes) ∙ ap (λ (xs : List ℕ). stream ++ xs) (take-append-drop i bytes)
 
-pub halted_bytes : GoOn → (why : Stop) (a : Outset) (stream bytes : List ℕ) (i : ℕ) (now : Option (List ℕ)) (new : Device) → i < length bytes
+pub halted_bytes : GoOn → (why : End) (a : Outset) (stream bytes : List ℕ) (i : ℕ) (now : Option (List ℕ)) (new : Device) → i < length bytes
     → BaseEventsHalted why a (base_events_of ((stream ++ take i bytes) ++ get_or bytes i 0 ∷ [])) now new → BaseEventsHalted why a (base_events_of (stream ++ bytes)) now new
 halted_bytes law why a stream bytes i now new lt h =
     halted_front law why a (stream ++ take (i + 1) bytes) (drop (i + 1) bytes) (stream ++ bytes) now new (front_bytes stream bytes (i + 1))

@@ -9,7 +9,7 @@ use Rattle.dg_mote.specs.Timely.{Timely}
 use Rattle.dg_serial_base.specs.BaseEvents.{Base, moment_at, draw_at, powered, power_effect, sent_too}
 use Rattle.dg_serial_base.specs.inner.Standing.{IsLeft, FailedBy, IsTime, Stood}
 use Rattle.dg_serial_base.specs.declared.running.Running.{Running}
-use Rattle.dg_serial_base.specs.declared.stop.Stop.{Stop}
+use Rattle.dg_end.specs.declared.ends.End.{End}
 use Rattle.dg_serial_base.proofs.RunLemmas.{run_rests}
 use Rattle.dg_serial_base.proofs.StartLemmas.{reset_silent}
 
@@ -34,6 +34,6 @@ power_stood b s now word n w v new at time left =
       none_sent b s,
     )
 
-pub power_fails : (b : Base) (s : Store) (why : Stop) (now word : ℕ) → now ≡ moment_at b 0 → word ≡ draw_at b 0 → (new : Device) → FailedBy why s (reset_effect s b.id true now word) new
+pub power_fails : (b : Base) (s : Store) (why : End) (now word : ℕ) → now ≡ moment_at b 0 → word ≡ draw_at b 0 → (new : Device) → FailedBy why s (reset_effect s b.id true now word) new
     → FailedBy why s (power_effect b s) new × ((powered b s).sent ≡ [])
 power_fails b s why now word n w new x = (subst (λ (e : Effect). FailedBy why s e new) (power_is b s now word n w) x, none_sent b s)

@@ -7,7 +7,8 @@ use Rattle.dg_frame.specs.Spelling.{frame_of}
 use Rattle.dg_frame.specs.declared.Message.{Message}
 use Rattle.dg_mote.specs.Model.{MoteState}
 use Rattle.dg_serial.specs.Line.{SerialItem, stuffed_line, stuffed}
-use Rattle.dg_serial_base.specs.BaseEvents.{Base, At, BaseEvent, base_events_of_item, base_events_of_items, after_base_event, sent_too, BaseEventsRun}
+use Rattle.dg_serial_base.specs.BaseEvents.{Base, At, BaseEvent, base_events_of_item, after_base_event, sent_too, BaseEventsRun}
+use Rattle.dg_serial_base.specs.inner.Standing.{base_events_of_items}
 use Rattle.dg_serial_base.specs.inner.Standing.{one_if}
 
 pub run_goes : (b : Base) (ds : List BaseEvent) (a y : At) (d : BaseEvent) (m : MoteState) → BaseEventsRun b a ds y → y.mote ≡ Some m → BaseEventsRun b a (ds ++ d ∷ []) (after_base_event b m y d)

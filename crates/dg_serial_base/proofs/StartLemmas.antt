@@ -23,9 +23,11 @@ use Rattle.dg_node.specs.declared.answers.TickFault.TheVariants as tick_fault
 use Rattle.dg_node.specs.Hosts.{host}
 use Rattle.dg_node.specs.Nodes.{NodeStands, node_runs, node_mote}
 use Rattle.dg_node.specs.Ends.{NodeEnd, Quiet, Sent, Starts, Stopped, NotAVolume, NoImage, NodeDone, EffectDone, PowerFinds, power_end, tick_end}
-use Rattle.dg_serial_base.specs.inner.Stops.{stop_of_start, stop_of_tick, result_of}
-use Rattle.dg_serial_base.specs.inner.Standing.{Calm, Counts, CountsBy, IsLeft, FailedBy, EffectEnds, NoneBy, WritesBy, ReadsBy}
-use Rattle.dg_serial_base.specs.declared.stop.Stop.{Stop}
+use Rattle.dg_end.specs.Conversions.{end_of_boot}
+use Rattle.dg_serial_base.specs.Based.{RefusedBy}
+use Rattle.dg_serial_base.specs.inner.Ends.{end_of_tick, result_of}
+use Rattle.dg_serial_base.specs.inner.Standing.{Calm, Counts, CountsBy, IsLeft, FailedBy, EffectEnds}
+use Rattle.dg_end.specs.declared.ends.End.{End}
 
 -- ---- chips that did not stop
 
@@ -80,7 +82,7 @@ module _ (frame : Option (List ℕ)) (e : Effect) (x : Option Node) (a b : Devic
   frame_said NoImage y done t ok = cc
 
   -- a start that failed
-  pub start_failed : (f : BootFault) (s : Store) (y : Option Node) → NodeDone (power_end (Err f)) frame e (host a x) (host b y) → Stands a.image s → FailedBy (stop_of_start f) s e b
+  pub start_failed : (f : BootFault) (s : Store) (y : Option Node) → NodeDone (power_end (Err f)) frame e (host a x) (host b y) → Stands a.image s → FailedBy (end_of_boot f) s e b
   start_failed boot_fault.Stopped s y done stands = record { between = a; stands = stands; stops = done.0 }
   start_failed boot_fault.NotAVolume s y done stands = done
   start_failed boot_fault.NoImage s y done stands = record { none = done.none; silent = done.silent; stands = done.stands }
@@ -90,18 +92,18 @@ tick_ok ticked.Idle = refl
 tick_ok ticked.Sent = refl
 tick_ok (ticked.Restarted image) = refl
 
-pub tick_err : (f : TickFault) → result_of (tick_end (Err f)) ≡ Err (stop_of_tick f)
+pub tick_err : (f : TickFault) → result_of (tick_end (Err f)) ≡ Err (end_of_tick f)
 tick_err tick_fault.Stopped = refl
 tick_err tick_fault.NoImage = refl
 
 -- ---- what a start found
 
-pub start_none : (f : BootFault) (a b : Device) → PowerFinds (Err f) a b → IsNoVolume a.image → NoneBy (stop_of_start f) a b
-start_none boot_fault.Stopped a b finds none = finds.1 none
-start_none boot_fault.NotAVolume a b finds none = finds.1
-start_none boot_fault.NoImage a b finds none = none finds.0 finds.1
+pub start_none : (T : Type 0) (f : BootFault) (a b : Device) → PowerFinds (Err f) a b → IsNoVolume a.image → RefusedBy {T = T} (Err (end_of_boot f)) a b
+start_none T boot_fault.Stopped a b finds none = finds.1 none
+start_none T boot_fault.NotAVolume a b finds none = finds.1
+start_none T boot_fault.NoImage a b finds none = none finds.0 finds.1
 
-pub start_counts : (f : BootFault) (E : Store → Effect) (x y : Option Node) (a b : Device) → PowerFinds (Err f) a b → ((s : Store) → Stands a.image s → NodeDone (power_end (Err f)) None (E s) (host a x) (host b y)) → CountsBy (stop_of_start f) a b
+pub start_counts : (f : BootFault) (E : Store → Effect) (x y : Option Node) (a b : Device) → PowerFinds (Err f) a b → ((s : Store) → Stands a.image s → NodeDone (power_end (Err f)) None (E s) (host a x) (host b y)) → CountsBy (end_of_boot f) a b
 start_counts boot_fault.Stopped E x y a b finds done = finds.0.cause
 start_counts boot_fault.NotAVolume E x y a b finds done = calm_ran 0 a b finds.1.ran
 start_counts boot_fault.NoImage E x y a b finds done = calm_ran _ a b (done finds.0 finds.1).ran

@@ -21,12 +21,9 @@ base_events_of_item (Frame bytes) = Hears bytes ∷ Ticks ∷ []
 base_events_of_item Escape = Ticks ∷ []
 base_events_of_item Long = Ticks ∷ []
 
-abbrev pub base_events_of_items : List SerialItem → List BaseEvent
-base_events_of_items xs = flat_map base_events_of_item xs
-
 -- the rest of a stream gives nothing
 abbrev pub base_events_of : List ℕ → List BaseEvent
-base_events_of stream = base_events_of_items (items stream)
+base_events_of stream = flat_map base_events_of_item (items stream)
 
 -- the number of the mote, the milliseconds from each event to the next, and the seed of its draws
 pub record Base : Type 0 where

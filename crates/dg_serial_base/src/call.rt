@@ -1,63 +1,23 @@
 //! The call of a base mote.
-ghost use Rattle.std.specs.Prelude.{◌≡◌, ◌≤◌, List};
-ghost use Rattle.dg_object.specs.Object.{Row, IsRow};
+ghost use Rattle.std.specs.Prelude.{◌≡◌, ◌≤◌};
+ghost use Rattle.dg_outside.specs.Outside.{Outside, input_of, output_of, with_input, with_output};
 ghost use Rattle.dg_volume.specs.Store.{Store};
 ghost use Rattle.dg_volume.specs.Stands.{Stands, IsNoVolume};
-ghost use Rattle.dg_volume.specs.Table.{IsTable};
-ghost use Rattle.dg_mote.specs.Well.{StoreIsWell};
-ghost use Rattle.dg_mote.specs.Consistency.{StoreIsConsistent};
-ghost use Rattle.dg_serial_base.specs.Agreeing.{HonestLine, ChipAgrees};
-ghost use Rattle.dg_serial_base.specs.Based.{outside_base, Based, Refused, BaseCauses};
-ghost use Rattle.dg_serial_base.specs.Consistency.{BaseStaysConsistent};
-ghost use Rattle.dg_serial_base.specs.inner.Ending.{TellsStatus, TellsStop, TellsResult, LineEnds, LineRefused};
+ghost use Rattle.dg_serial_base.specs.Based.{BaseLine, RefusedBy};
+ghost use Rattle.dg_serial_base.specs.Done.{BasedOn};
 ghost use Rattle.dg_serial_base.specs.inner.Standing.{Counts, WriteCounts, ReadCounts};
 
 use crate::playing::Player;
 use crate::reading::PIECE;
 use crate::running::Running;
-use crate::stop::Stop;
-use dg_base::{Sink, Source, Status, WriteFailed};
+use dg_base::{Sink, Source, Status};
 use dg_boot::golden_can_be_started;
+use dg_end::{End, finish};
 use dg_mote::{a_mote_keeps_consistency, a_mote_stays_well};
 use dg_nor::Nor;
 use dg_serial::{Unstuff, frames_come_back};
 use dg_volume::{a_start_ends, a_whole_image_is_sound, trails_keep_consistency};
 use std::alloc::Global;
-
-/// Writes the last line of a status, and answers the status, unless the line cannot be written.
-fn tell_last<K: Sink>(line: &[u8], status: Status, out: &mut K) -> Status
-    ensures { TellsStatus result status line.now (K.written out.old) (K.written out.new) (K.faults out.old) (K.faults out.new) }
-{
-    match out.write(line) {
-        Ok(()) => status,
-        Err(WriteFailed) => Status::WriteFault,
-    }
-}
-
-/// Writes the last line of a base mote that ended so, if it has one, and answers its status.
-fn tell_stop<K: Sink>(stop: Stop, out: &mut K) -> Status
-    ensures { TellsStop stop result (K.written out.old) (K.written out.new) (K.faults out.old) (K.faults out.new) }
-{
-    match stop {
-        Stop::Memory => Status::Memory,
-        Stop::Read => Status::ReadFault,
-        Stop::Write => Status::WriteFault,
-        Stop::Flash => Status::FlashFault,
-        Stop::NotAVolume => tell_last(b"notavolume\n", Status::NotAVolume, out),
-        Stop::NoImage => tell_last(b"noimage\n", Status::NoImage, out),
-        Stop::TooLong => tell_last(b"toolong\n", Status::TooLong, out),
-    }
-}
-
-/// Reports how a base mote ended, and answers its status.
-fn tell<K: Sink>(ended: Result<(), Stop>, out: &mut K) -> Status
-    ensures { TellsResult ended result (K.written out.old) (K.written out.new) (K.faults out.old) (K.faults out.new) }
-{
-    match ended {
-        Ok(()) => Status::Done,
-        Err(stop) => tell_stop(stop, out),
-    }
-}
 
 /// Starts a chip by power, and plays its line to the end.
 fn play_line<S: Source, K: Sink, N: Nor>(
@@ -68,20 +28,20 @@ fn play_line<S: Source, K: Sink, N: Nor>(
     seed: u32,
     input: &mut S,
     out: &mut K,
-) -> Result<(), Stop>
+) -> Result<(), End>
     requires little { step ≤ 60000 }
-    ensures ends { (s : Store) → Stands (N.device nor.old).image s
-        → LineEnds result (record { id = id; step = step; seed = seed }) s
-        (outside_base (S.left input.old) (S.faults input.old) (K.written out.old) (K.faults out.old) (N.device nor.old))
-        (outside_base (S.left input.new) (S.faults input.new) (K.written out.new) (K.faults out.new) (N.device nor.new)) }
-    ensures refused { IsNoVolume (N.device nor.old).image
-        → LineRefused result
-        (outside_base (S.left input.old) (S.faults input.old) (K.written out.old) (K.faults out.old) (N.device nor.old))
-        (outside_base (S.left input.new) (S.faults input.new) (K.written out.new) (K.faults out.new) (N.device nor.new)) }
+    ensures ends { (s : Store) (rest : Outside) → Stands (N.device nor.old).image s
+        → BaseLine result (record { id = id; step = step; seed = seed }) s (N.device nor.old) (N.device nor.new)
+        (with_output (K.Sink, out.old) (with_input (S.Source, input.old) rest))
+        (with_output (K.Sink, out.new) (with_input (S.Source, input.new) rest)) }
+    ensures refused { IsNoVolume (N.device nor.old).image → RefusedBy result (N.device nor.old) (N.device nor.new)
+        × (input_of (S.Source, input.new) ≡ input_of (S.Source, input.old))
+        × (output_of (K.Sink, out.new) ≡ output_of (K.Sink, out.old)) }
     ensures counts { Counts result (N.device nor.old) (N.device nor.new) }
     ensures writes { WriteCounts result (K.faults out.old) (K.faults out.new) }
     ensures reads { ReadCounts result (S.faults input.old) (S.faults input.new) }
 {
+    frames_come_back();
     match Running::power(nor, id, step, seed) {
         Ok(running) => {
             let line = Unstuff::new();
@@ -93,7 +53,7 @@ fn play_line<S: Source, K: Sink, N: Nor>(
             };
             player.play_input(&mut [0; PIECE], input, nor, out)
         }
-        Err(stop) => Err(stop),
+        Err(end) => Err(end),
     }
 }
 
@@ -116,29 +76,13 @@ pub fn base<S: Source, K: Sink, N: Nor>(
     out: &mut K,
 ) -> Status
     requires little { step ≤ 60000 }
-    // From a chip that is a volume: the bytes written are the stuffed frames of the mote's rules over the items. A reader of
-    // the line gets these frames back, and each status comes where the rules say.
-    ensures based { (s : Store) → Stands (N.device nor.old).image s
-        → Based result (record { id = id; step = step; seed = seed }) s
-        (outside_base (S.left input.old) (S.faults input.old) (K.written out.old) (K.faults out.old) (N.device nor.old))
-        (outside_base (S.left input.new) (S.faults input.new) (K.written out.new) (K.faults out.new) (N.device nor.new)) }
-    // A chip that is not a volume is left unchanged.
-    ensures refused { IsNoVolume (N.device nor.old).image → Refused result
-        (outside_base (S.left input.old) (S.faults input.old) (K.written out.old) (K.faults out.old) (N.device nor.old))
-        (outside_base (S.left input.new) (S.faults input.new) (K.written out.new) (K.faults out.new) (N.device nor.new)) }
-    // A fault of the outside is reported, and only with its own answer.
-    ensures causes { BaseCauses result
-        (outside_base (S.left input.old) (S.faults input.old) (K.written out.old) (K.faults out.old) (N.device nor.old))
-        (outside_base (S.left input.new) (S.faults input.new) (K.written out.new) (K.faults out.new) (N.device nor.new)) }
-    ensures agrees { (s : Store) (table : List Row) (x : Based result (record { id = id; step = step; seed = seed }) s
-        (outside_base (S.left input.old) (S.faults input.old) (K.written out.old) (K.faults out.old) (N.device nor.old))
-        (outside_base (S.left input.new) (S.faults input.new) (K.written out.new) (K.faults out.new) (N.device nor.new)))
-        → IsTable table → StoreIsWell table s → HonestLine table x.input → ChipAgrees table (N.device nor.new).image }
-    ensures consistent { (s : Store) (golden : Row) (x : Based result (record { id = id; step = step; seed = seed }) s
-        (outside_base (S.left input.old) (S.faults input.old) (K.written out.old) (K.faults out.old) (N.device nor.old))
-        (outside_base (S.left input.new) (S.faults input.new) (K.written out.new) (K.faults out.new) (N.device nor.new)))
-        → IsRow golden → StoreIsConsistent golden s
-        → BaseStaysConsistent golden result (record { id = id; step = step; seed = seed }) s x.input (N.device nor.new).image }
+    // From a chip that is a volume: the bytes written are the stuffed frames of the mote's rules over the items, and the last
+    // line of the end that the line came to. A reader of the line gets these frames back, and each status comes where the rules
+    // say. A chip that is not a volume is left unchanged. A fault of the outside is reported, and only with its own answer.
+    ensures does { (rest : Outside) → BasedOn (record { id = id; step = step; seed = seed }) result
+        (N.device nor.old) (N.device nor.new)
+        (with_output (K.Sink, out.old) (with_input (S.Source, input.old) rest))
+        (with_output (K.Sink, out.new) (with_input (S.Source, input.new) rest)) }
 {
     a_mote_stays_well();
     a_mote_keeps_consistency();
@@ -146,7 +90,6 @@ pub fn base<S: Source, K: Sink, N: Nor>(
     a_start_ends();
     a_whole_image_is_sound();
     golden_can_be_started();
-    frames_come_back();
-    let ended = play_line(alloc, nor, id, step, seed, input, out);
-    tell(ended, out)
+    let outcome = play_line(alloc, nor, id, step, seed, input, out);
+    finish(alloc, out, outcome)
 }

@@ -8,7 +8,6 @@ mod playing;
 mod reading;
 mod running;
 mod sending;
-mod stop;
 mod timeline;
 
 pub use call::base;

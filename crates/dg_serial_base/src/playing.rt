@@ -2,14 +2,15 @@
 ghost use Rattle.std.specs.Prelude.{◌≡◌, ℕ, ◌+◌, ◌*◌, ◌^◌, ◌<◌, ◌≤◌, List, [], ◌∷◌, ◌++◌, length, OnOk};
 ghost use Rattle.dg_base.specs.Sizes.{longest_frame};
 ghost use Rattle.dg_serial.specs.Reading.{items_told};
-ghost use Rattle.dg_serial_base.specs.BaseEvents.{BaseEvent, Hears, Ticks, base_events_of_items};
+ghost use Rattle.dg_serial_base.specs.BaseEvents.{BaseEvent, Hears, Ticks};
+ghost use Rattle.dg_serial_base.specs.inner.Standing.{base_events_of_items};
 ghost use Rattle.dg_serial_base.specs.inner.Standing.{Counts, WriteCounts, ReadCounts, Outset, code_at, code_on_line};
 ghost use Rattle.dg_serial_base.specs.inner.Standing.{IsStood, CompletedOn, ContinueEnds, StreamPlayed, StreamEnds};
 
 use crate::running::Running;
 use crate::sending::send;
-use crate::stop::Stop;
 use dg_base::Sink;
+use dg_end::End;
 use dg_mote::Outbox;
 use dg_nor::Nor;
 use dg_serial::{Fed, Unstuff, streams_go_on};
@@ -24,7 +25,7 @@ pub(crate) struct Player {
 
 impl Player {
     /// The mote ticks, and what it sends is written.
-    fn pass<N: Nor, K: Sink>(&mut self, nor: &mut N, out: &mut K) -> Result<(), Stop>
+    fn pass<N: Nor, K: Sink>(&mut self, nor: &mut N, out: &mut K) -> Result<(), End>
         requires stood { IsStood self.old.running (N.device nor.old).image }
         requires early { self.old.running.timeline.moment < 2 ^ 61 }
         requires little { self.old.running.timeline.step ≤ 60000 }
@@ -42,7 +43,7 @@ impl Player {
         let mut outbox = Outbox::new();
         match self.running.tick(nor, &mut outbox) {
             Ok(()) => send(&outbox, &mut self.text, out),
-            Err(stop) => Err(stop),
+            Err(end) => Err(end),
         }
     }
 
@@ -52,7 +53,7 @@ impl Player {
         bytes: &[u8],
         nor: &mut N,
         out: &mut K,
-    ) -> Result<(), Stop>
+    ) -> Result<(), End>
         requires stood { IsStood self.old.running (N.device nor.old).image }
         requires early { self.old.running.timeline.moment < 2 ^ 60 }
         requires little { self.old.running.timeline.step ≤ 60000 }
@@ -70,12 +71,12 @@ impl Player {
     {
         match self.running.hear(nor, bytes) {
             Ok(()) => self.pass(nor, out),
-            Err(stop) => Err(stop),
+            Err(end) => Err(end),
         }
     }
 
     /// Plays what a byte of the line gives.
-    fn play<N: Nor, K: Sink>(&mut self, fed: &Fed, nor: &mut N, out: &mut K) -> Result<(), Stop>
+    fn play<N: Nor, K: Sink>(&mut self, fed: &Fed, nor: &mut N, out: &mut K) -> Result<(), End>
         requires stood { IsStood self.old.running (N.device nor.old).image }
         requires early { self.old.running.timeline.moment < 2 ^ 60 }
         requires little { self.old.running.timeline.step ≤ 60000 }
@@ -100,7 +101,7 @@ impl Player {
     }
 
     /// Plays a byte of the line.
-    fn play_byte<N: Nor, K: Sink>(&mut self, byte: u8, nor: &mut N, out: &mut K) -> Result<(), Stop>
+    fn play_byte<N: Nor, K: Sink>(&mut self, byte: u8, nor: &mut N, out: &mut K) -> Result<(), End>
         requires stood { IsStood self.old.running (N.device nor.old).image }
         requires early { self.old.running.timeline.moment < 2 ^ 60 }
         requires little { self.old.running.timeline.step ≤ 60000 }
@@ -125,7 +126,7 @@ impl Player {
         bytes: &[u8],
         nor: &mut N,
         out: &mut K,
-    ) -> Result<(), Stop>
+    ) -> Result<(), End>
         requires stood { IsStood self.old.running (N.device nor.old).image }
         requires early { self.old.running.timeline.moment + 120000 * length bytes.now < 2 ^ 60 }
         requires little { self.old.running.timeline.step ≤ 60000 }

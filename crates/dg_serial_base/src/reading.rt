@@ -6,38 +6,38 @@ ghost use Rattle.dg_serial_base.specs.inner.Standing.{Counts, WriteCounts, ReadC
 ghost use Rattle.dg_serial_base.specs.inner.Standing.{IsStood, StreamPlayed, PieceEnds, InputEnds, LastEnds};
 
 use crate::playing::Player;
-use crate::stop::Stop;
 use dg_base::{MOST_INPUT, ReadFailed, Sink, Source};
+use dg_end::End;
 use dg_nor::Nor;
 
 /// Bytes that are asked for at once.
 pub(crate) const PIECE: usize = 4_096;
 
 /// Reads the next bytes of the input into a piece, at most this many, and answers how many came: 0 at the end.
-fn read_piece<S: Source>(input: &mut S, piece: &mut [u8], most: usize) -> Result<usize, Stop>
+fn read_piece<S: Source>(input: &mut S, piece: &mut [u8], most: usize) -> Result<usize, End>
     requires some { 0 < length piece.old }
     requires most { 0 < most }
     ensures taken { (more : List ℕ) × Takes (S.left input.old) (S.left input.new) more × (length more ≤ most)
         × IfOk result (λ n. (n ≡ length more) × (take n piece.new ≡ more)) × OnErr result (more ≡ []) }
     ensures ended { result ≡ Ok 0 → AtEnd (S.left input.new) }
-    ensures why { IfErr result (λ why. why ≡ Stop.Read) }
+    ensures why { IfErr result (λ why. why ≡ End.ReadFault) }
     ensures counts { ReadCounts result (S.faults input.old) (S.faults input.new) }
 {
     match dg_input::read_piece(input, piece, most) {
         Ok(count) => Ok(count),
-        Err(ReadFailed) => Err(Stop::Read),
+        Err(ReadFailed) => Err(End::ReadFault),
     }
 }
 
 /// Checks that the input is at its end.
-fn expect_end<S: Source>(input: &mut S) -> Result<(), Stop>
+fn expect_end<S: Source>(input: &mut S) -> Result<(), End>
     ensures ends { LastEnds result (S.left input.old) (S.left input.new) }
     ensures counts { ReadCounts result (S.faults input.old) (S.faults input.new) }
 {
     if read_piece(input, &mut [0; 1], 1)? == 0 {
         return Ok(());
     }
-    Err(Stop::TooLong)
+    Err(End::TooLong)
 }
 
 impl Player {
@@ -49,7 +49,7 @@ impl Player {
         input: &mut S,
         nor: &mut N,
         out: &mut K,
-    ) -> Result<usize, Stop>
+    ) -> Result<usize, End>
         requires some { 0 < length piece.old }
         requires most { 0 < most }
         requires stood { IsStood self.old.running (N.device nor.old).image }
@@ -71,9 +71,9 @@ impl Player {
         match read_piece(input, piece, most) {
             Ok(count) => match self.play_bytes(&piece[..count], nor, out) {
                 Ok(()) => Ok(count),
-                Err(stop) => Err(stop),
+                Err(end) => Err(end),
             },
-            Err(stop) => Err(stop),
+            Err(end) => Err(end),
         }
     }
 
@@ -84,7 +84,7 @@ impl Player {
         input: &mut S,
         nor: &mut N,
         out: &mut K,
-    ) -> Result<(), Stop>
+    ) -> Result<(), End>
         requires some { 0 < length piece.old }
         requires stood { IsStood self.old.running (N.device nor.old).image }
         requires early { self.old.running.timeline.moment ≤ 60000 }

@@ -4,13 +4,15 @@ ghost use Rattle.dg_volume.specs.Store.{Store};
 ghost use Rattle.dg_volume.specs.Stands.{Stands, IsNoVolume};
 ghost use Rattle.dg_mote.specs.Motes.{sent_in};
 ghost use Rattle.dg_serial_base.specs.BaseEvents.{Base, At as Place, BaseEvent, Hears, Ticks};
-ghost use Rattle.dg_serial_base.specs.inner.Standing.{NoneEnds, PowerEnds, BaseEventEnds, base_event_left};
+ghost use Rattle.dg_serial_base.specs.Based.{RefusedBy};
+ghost use Rattle.dg_serial_base.specs.inner.Ends.{end_of_tick};
+ghost use Rattle.dg_serial_base.specs.inner.Standing.{PowerEnds, BaseEventEnds, base_event_left};
 ghost use Rattle.dg_serial_base.specs.inner.Standing.{Counts, WriteCounts, ReadCounts, Stood, IsStood};
 
-use crate::stop::Stop;
 use crate::timeline::Timeline;
+use dg_end::End;
 use dg_mote::{Outbox, a_mote_stays_timely};
-use dg_node::{At, Node, a_node_stays_timely};
+use dg_node::{At, Node, TickFault, a_node_stays_timely};
 use dg_nor::Nor;
 
 /// A node, and its time.
@@ -20,13 +22,23 @@ pub(crate) struct Running {
     pub(crate) timeline: Timeline,
 }
 
+/// How a tick that fails ends a base mote.
+fn end_of_tick(fault: TickFault) -> End
+    ensures { result ≡ end_of_tick fault }
+{
+    match fault {
+        TickFault::Stopped => End::FlashFault,
+        TickFault::NoImage => End::NoImage,
+    }
+}
+
 impl Running {
     /// A chip powers on: it starts, and its mote, which is wide, is made.
-    pub(crate) fn power<N: Nor>(nor: &mut N, id: u16, step: u32, seed: u32) -> Result<Running, Stop>
+    pub(crate) fn power<N: Nor>(nor: &mut N, id: u16, step: u32, seed: u32) -> Result<Running, End>
         requires little { step ≤ 60000 }
         ensures ends { (s : Store) → Stands (N.device nor.old).image s
             → PowerEnds result (record { id = id; step = step; seed = seed }) s (N.device nor.new) }
-        ensures none { IsNoVolume (N.device nor.old).image → NoneEnds result (N.device nor.old) (N.device nor.new) }
+        ensures none { IsNoVolume (N.device nor.old).image → RefusedBy result (N.device nor.old) (N.device nor.new) }
         ensures stood { IfOk result (λ v. IsStood v (N.device nor.new).image) }
         ensures counts { Counts result (N.device nor.old) (N.device nor.new) }
         ensures writes { (n : ℕ) → WriteCounts result n n }
@@ -51,7 +63,7 @@ impl Running {
     }
 
     /// The mote hears a frame.
-    pub(crate) fn hear<N: Nor>(&mut self, nor: &mut N, bytes: &[u8]) -> Result<(), Stop>
+    pub(crate) fn hear<N: Nor>(&mut self, nor: &mut N, bytes: &[u8]) -> Result<(), End>
         requires stood { IsStood self.old (N.device nor.old).image }
         requires early { self.old.timeline.moment < 2 ^ 61 }
         requires little { self.old.timeline.step ≤ 60000 }
@@ -71,7 +83,7 @@ impl Running {
     }
 
     /// The mote ticks. What it sends is then in the outbox.
-    pub(crate) fn tick<N: Nor>(&mut self, nor: &mut N, outbox: &mut Outbox) -> Result<(), Stop>
+    pub(crate) fn tick<N: Nor>(&mut self, nor: &mut N, outbox: &mut Outbox) -> Result<(), End>
         requires stood { IsStood self.old (N.device nor.old).image }
         requires early { self.old.timeline.moment < 2 ^ 61 }
         requires little { self.old.timeline.step ≤ 60000 }
@@ -88,7 +100,9 @@ impl Running {
         a_mote_stays_timely();
         a_node_stays_timely();
         let timing = self.timeline.next();
-        self.node.tick(nor, timing.now, timing.word, outbox)?;
-        Ok(())
+        match self.node.tick(nor, timing.now, timing.word, outbox) {
+            Ok(_) => Ok(()),
+            Err(fault) => Err(end_of_tick(fault)),
+        }
     }
 }

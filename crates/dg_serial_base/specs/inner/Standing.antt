@@ -1,13 +1,12 @@
 -- Where the code of a base mote stands, and how its calls go on from there (docs/COMMANDS.md, "Base").
 use Rattle.std.specs.Prelude.{◌≡◌, ◌⊎◌, ℕ, ◌+◌, ◌*◌, ◌<◌, ◌≤◌, true, List, [], ◌∷◌, ◌++◌, length, take, map, Option, Some, None}
 use Rattle.std.specs.Prelude.{Result, Ok, Err}
-use Rattle.std.specs.List.{AllByRecursion}
+use Rattle.std.specs.List.{AllByRecursion, flat_map}
 use Rattle.dg_words.specs.Counts.{Rose}
 use Rattle.dg_base.specs.Outside.{Takes, Puts, PutsPrefix, AtEnd}
 use Rattle.dg_base.specs.Sizes.{most_input}
 use Rattle.dg_nor.specs.Device.{Device}
 use Rattle.dg_nor.specs.Trail.{last}
-use Rattle.dg_nor.specs.Reads.{Looked, ReadStopped}
 use Rattle.dg_volume.specs.Store.{Store}
 use Rattle.dg_volume.specs.Stands.{Stands}
 use Rattle.dg_volume.specs.Acts.{Stops}
@@ -19,15 +18,19 @@ use Rattle.dg_mote.specs.Timely.{Timely}
 use Rattle.dg_mote.specs.declared.mote.Mote.{Mote}
 use Rattle.dg_node.specs.Nodes.{node_mote}
 use Rattle.dg_seed.specs.Draws.{generator_of, generator_after}
-use Rattle.dg_serial.specs.Line.{IsOnLine}
+use Rattle.dg_serial.specs.Line.{SerialItem, IsOnLine}
 use Rattle.dg_serial.specs.Reading.{FrameReading, reading_behind}
-use Rattle.dg_serial_base.specs.BaseEvents.{Base, At, BaseEvent, base_events_of, powered, power_effect, effect_of, BaseEventsRun}
-use Rattle.dg_serial_base.specs.BaseEvents.{line_sent}
+use Rattle.dg_serial_base.specs.BaseEvents.{Base, At, BaseEvent, base_events_of_item, base_events_of, powered, power_effect}
+use Rattle.dg_serial_base.specs.BaseEvents.{effect_of, BaseEventsRun, line_sent}
 use Rattle.dg_serial_base.specs.Based.{IsPrefixOfInput}
 use Rattle.dg_serial_base.specs.declared.timeline.Timeline.{Timeline}
 use Rattle.dg_serial_base.specs.declared.running.Running.{Running}
-use Rattle.dg_serial_base.specs.declared.stop.Stop.{Stop}
-use Rattle.dg_serial_base.specs.declared.stop.Stop.TheVariants as stop
+use Rattle.dg_end.specs.declared.ends.End.{End}
+use Rattle.dg_end.specs.declared.ends.End.TheVariants as ends
+
+-- what items of a line give
+abbrev pub base_events_of_items : List SerialItem → List BaseEvent
+base_events_of_items xs = flat_map base_events_of_item xs
 
 -- ---- chips
 
@@ -41,16 +44,11 @@ abbrev pub WhyStopped : (old new : Device) → Type 0
 WhyStopped old new = (old.stopped ≡ true) ⊎ Rose old.faults new.faults
 
 -- a chip stops only with the answer that says so
-abbrev pub CountsBy : Stop → (old new : Device) → Type 0
-CountsBy stop.Flash old new = WhyStopped old new
-CountsBy stop.Memory old new = Calm old new
-CountsBy stop.Read old new = Calm old new
-CountsBy stop.Write old new = Calm old new
-CountsBy stop.NotAVolume old new = Calm old new
-CountsBy stop.NoImage old new = Calm old new
-CountsBy stop.TooLong old new = Calm old new
+abbrev pub CountsBy : End → (old new : Device) → Type 0
+CountsBy ends.FlashFault old new = WhyStopped old new
+CountsBy end old new = Calm old new
 
-abbrev pub Counts : {T : Type 0} → Result T Stop → (old new : Device) → Type 0
+abbrev pub Counts : {T : Type 0} → Result T End → (old new : Device) → Type 0
 Counts (Ok x) old new = Calm old new
 Counts (Err why) old new = CountsBy why old new
 
@@ -79,7 +77,7 @@ pub record LineAt : Type 0 where
 abbrev pub code_on_line : (written : Option (List ℕ)) → (mote : Running) → (reading : FrameReading) → (chip : Device) → LineAt
 code_on_line written mote reading chip = record { code = code_at written mote chip; reading = reading }
 
--- what an event leaves: the code's mote over its chip, and the frame that is to be written, if there is one
+-- what a base_event leaves: the code's mote over its chip, and the frame that is to be written, if there is one
 pub record BaseEventLeft : Type 0 where
   pub mote : Running
   pub chip : Device
@@ -110,34 +108,16 @@ pub record StopsOn (s : Store) (e : Effect) (new : Device) : Type 0 where
   pub stops : Stops e.trail between new
 
 -- how an event with this effect failed at a chip that stood for s
-abbrev pub FailedBy : Stop → (s : Store) → Effect → Device → Type 0
-FailedBy stop.Flash s e new = StopsOn s e new
-FailedBy stop.NoImage s e new = LeavesNone e new.image
-FailedBy stop.Memory s e new = ⊥
-FailedBy stop.Read s e new = ⊥
-FailedBy stop.Write s e new = ⊥
-FailedBy stop.NotAVolume s e new = ⊥
-FailedBy stop.TooLong s e new = ⊥
+abbrev pub FailedBy : End → (s : Store) → Effect → Device → Type 0
+FailedBy ends.FlashFault s e new = StopsOn s e new
+FailedBy ends.NoImage s e new = LeavesNone e new.image
+FailedBy end s e new = ⊥
 
-abbrev pub EffectEnds : {T : Type 0} → Result T Stop → (s : Store) → Effect → (now : ℕ) → Device → Mote → Type 0
+abbrev pub EffectEnds : {T : Type 0} → Result T End → (s : Store) → Effect → (now : ℕ) → Device → Mote → Type 0
 EffectEnds (Ok x) s e now new v = IsLeft e new.image v now
 EffectEnds (Err why) s e now new v = FailedBy why s e new
 
--- what a start answers where the chip is not a volume
-abbrev pub NoneBy : Stop → (old new : Device) → Type 0
-NoneBy stop.Flash old new = ReadStopped old new
-NoneBy stop.NotAVolume old new = Looked old new
-NoneBy stop.NoImage old new = ⊥
-NoneBy stop.Memory old new = ⊥
-NoneBy stop.Read old new = ⊥
-NoneBy stop.Write old new = ⊥
-NoneBy stop.TooLong old new = ⊥
-
-abbrev pub NoneEnds : {T : Type 0} → Result T Stop → (old new : Device) → Type 0
-NoneEnds (Ok x) old new = ⊥
-NoneEnds (Err why) old new = NoneBy why old new
-
--- ---- the mote after its events
+-- ---- the mote after its base_events
 
 -- the time and the draws of this many events
 pub record IsTime (t : Timeline) (b : Base) (events : ℕ) : Type 0 where
@@ -145,7 +125,7 @@ pub record IsTime (t : Timeline) (b : Base) (events : ℕ) : Type 0 where
   pub moment : t.moment ≡ b.step * events
   pub draws : generator_of t.draws ≡ generator_after b.seed events
 
--- These events were done, and the code's mote over a chip of these bytes is the mote then.
+-- These base_events were done, and the code's mote over a chip of these bytes is the mote then.
 pub record Stood (b : Base) (s : Store) (done : List BaseEvent) (v : Running) (c : List ℕ) (there : At) : Type 0 where
   pub state : MoteState
   pub run : BaseEventsRun b (powered b s) done there
@@ -158,7 +138,7 @@ abbrev pub IsStood : Running → List ℕ → Type 0
 IsStood v c = (b : Base) × (s : Store) × (done : List BaseEvent) × (there : At) × Stood b s done v c there
 
 -- what power-on does
-abbrev pub PowerEnds : Result Running Stop → (b : Base) (s : Store) → Device → Type 0
+abbrev pub PowerEnds : Result Running End → (b : Base) (s : Store) → Device → Type 0
 PowerEnds (Ok v) b s new = Stood b s [] v new.image (powered b s) × ((powered b s).sent ≡ [])
 PowerEnds (Err why) b s new = FailedBy why s (power_effect b s) new × ((powered b s).sent ≡ [])
 
@@ -167,14 +147,14 @@ abbrev pub one_if : Option (List ℕ) → List (List ℕ)
 one_if None = []
 one_if (Some frame) = frame ∷ []
 
--- One more event was done, in which this frame was sent, if any.
+-- One more base_event was done, in which this frame was sent, if any.
 pub record DoneOne (b : Base) (s : Store) (done : List BaseEvent) (d : BaseEvent) (before : At) (left : BaseEventLeft)
     : Type 0 where
   pub there : At
   pub stood : Stood b s (done ++ d ∷ []) left.mote left.chip.image there
   pub sent : map frame_of there.sent ≡ map frame_of before.sent ++ one_if left.frame
 
--- An event found no image to start.
+-- A base_event found no image to start.
 pub record LacksIn (b : Base) (s : Store) (done : List BaseEvent) (d : BaseEvent) (before : At) (c : List ℕ) : Type 0 where
   pub there : At
   pub run : BaseEventsRun b (powered b s) (done ++ d ∷ []) there
@@ -182,22 +162,18 @@ pub record LacksIn (b : Base) (s : Store) (done : List BaseEvent) (d : BaseEvent
   pub sent : there.sent ≡ before.sent
   pub stands : Stands c there.store
 
--- The chip stopped in an event.
+-- The chip stopped in a base_event.
 pub record StopsInBaseEvent (b : Base) (d : BaseEvent) (before : At) (new : Device) : Type 0 where
   pub state : MoteState
   pub on : before.mote ≡ Some state
   pub stops : StopsOn before.store (effect_of b state before d) new
 
-abbrev pub BaseEventFails : Stop → (b : Base) (s : Store) (done : List BaseEvent) (d : BaseEvent) (before : At) → Device → Type 0
-BaseEventFails stop.Flash b s done d before new = StopsInBaseEvent b d before new
-BaseEventFails stop.NoImage b s done d before new = LacksIn b s done d before new.image
-BaseEventFails stop.Memory b s done d before new = ⊥
-BaseEventFails stop.Read b s done d before new = ⊥
-BaseEventFails stop.Write b s done d before new = ⊥
-BaseEventFails stop.NotAVolume b s done d before new = ⊥
-BaseEventFails stop.TooLong b s done d before new = ⊥
+abbrev pub BaseEventFails : End → (b : Base) (s : Store) (done : List BaseEvent) (d : BaseEvent) (before : At) → Device → Type 0
+BaseEventFails ends.FlashFault b s done d before new = StopsInBaseEvent b d before new
+BaseEventFails ends.NoImage b s done d before new = LacksIn b s done d before new.image
+BaseEventFails end b s done d before new = ⊥
 
-abbrev pub BaseEventEnds : Result (Unit {0}) Stop → (b : Base) (s : Store) (done : List BaseEvent) (d : BaseEvent) (before : At)
+abbrev pub BaseEventEnds : Result (Unit {0}) End → (b : Base) (s : Store) (done : List BaseEvent) (d : BaseEvent) (before : At)
     → BaseEventLeft
     → Type 0
 BaseEventEnds (Ok x) b s done d before left = DoneOne b s done d before left
@@ -206,67 +182,51 @@ BaseEventEnds (Err why) b s done d before left = BaseEventFails why b s done d b
 -- ---- writing
 
 -- a frame was written, or a prefix of it
-abbrev pub SendFails : Stop → (text : List ℕ) (before now : Option (List ℕ)) → Type 0
-SendFails stop.Write text before now = PutsPrefix before now text
-SendFails stop.Memory text before now = now ≡ before
-SendFails stop.Flash text before now = ⊥
-SendFails stop.NoImage text before now = ⊥
-SendFails stop.Read text before now = ⊥
-SendFails stop.NotAVolume text before now = ⊥
-SendFails stop.TooLong text before now = ⊥
+abbrev pub SendFails : End → (text : List ℕ) (before now : Option (List ℕ)) → Type 0
+SendFails ends.WriteFault text before now = PutsPrefix before now text
+SendFails ends.Memory text before now = now ≡ before
+SendFails end text before now = ⊥
 
-abbrev pub SendEnds : {T : Type 0} → Result T Stop → (text : List ℕ) (before now : Option (List ℕ)) → Type 0
+abbrev pub SendEnds : {T : Type 0} → Result T End → (text : List ℕ) (before now : Option (List ℕ)) → Type 0
 SendEnds (Ok x) text before now = Puts before now text
 SendEnds (Err why) text before now = SendFails why text before now
 
 -- a write fails only with the answer that says so, and so does a read
-abbrev pub WritesBy : Stop → (old new : ℕ) → Type 0
-WritesBy stop.Write old new = Rose old new × (old ≤ new)
-WritesBy stop.Memory old new = new ≡ old
-WritesBy stop.Flash old new = new ≡ old
-WritesBy stop.NoImage old new = new ≡ old
-WritesBy stop.Read old new = new ≡ old
-WritesBy stop.NotAVolume old new = new ≡ old
-WritesBy stop.TooLong old new = new ≡ old
+abbrev pub WritesBy : End → (old new : ℕ) → Type 0
+WritesBy ends.WriteFault old new = Rose old new × (old ≤ new)
+WritesBy end old new = new ≡ old
 
-abbrev pub WriteCounts : {T : Type 0} → Result T Stop → (old new : ℕ) → Type 0
+abbrev pub WriteCounts : {T : Type 0} → Result T End → (old new : ℕ) → Type 0
 WriteCounts (Ok x) old new = new ≡ old
 WriteCounts (Err why) old new = WritesBy why old new
 
-abbrev pub ReadsBy : Stop → (old new : ℕ) → Type 0
-ReadsBy stop.Read old new = Rose old new × (old ≤ new)
-ReadsBy stop.Memory old new = new ≡ old
-ReadsBy stop.Flash old new = new ≡ old
-ReadsBy stop.NoImage old new = new ≡ old
-ReadsBy stop.Write old new = new ≡ old
-ReadsBy stop.NotAVolume old new = new ≡ old
-ReadsBy stop.TooLong old new = new ≡ old
+abbrev pub ReadsBy : End → (old new : ℕ) → Type 0
+ReadsBy ends.ReadFault old new = Rose old new × (old ≤ new)
+ReadsBy end old new = new ≡ old
 
-abbrev pub ReadCounts : {T : Type 0} → Result T Stop → (old new : ℕ) → Type 0
+abbrev pub ReadCounts : {T : Type 0} → Result T End → (old new : ℕ) → Type 0
 ReadCounts (Ok x) old new = new ≡ old
 ReadCounts (Err why) old new = ReadsBy why old new
 
 -- why the mote stops, and what was written by then
-abbrev pub StoppedBy : Stop → (b : Base) (there : At) (rest : List BaseEvent) (first now : Option (List ℕ)) → Device → Type 0
-StoppedBy stop.Memory b there rest first now new =
+abbrev pub StoppedBy : End → (b : Base) (there : At) (rest : List BaseEvent) (first now : Option (List ℕ)) → Device → Type 0
+StoppedBy ends.Memory b there rest first now new =
     (text : List ℕ) × Puts first now text × IsPrefixOfInput text (line_sent there) × Stands new.image there.store
-StoppedBy stop.Write b there rest first now new =
+StoppedBy ends.WriteFault b there rest first now new =
     (text : List ℕ) × Puts first now text × IsPrefixOfInput text (line_sent there) × Stands new.image there.store
-StoppedBy stop.NoImage b there rest first now new =
+StoppedBy ends.NoImage b there rest first now new =
     (there.mote ≡ None) × Puts first now (line_sent there) × Stands new.image there.store
-StoppedBy stop.Flash b there rest first now new =
+StoppedBy ends.FlashFault b there rest first now new =
     (m : MoteState) × (d : BaseEvent) × (more : List BaseEvent) × (there.mote ≡ Some m) × (rest ≡ d ∷ more)
     × Puts first now (line_sent there) × StopsOn there.store (effect_of b m there d) new
-StoppedBy stop.Read b there rest first now new = ⊥
-StoppedBy stop.NotAVolume b there rest first now new = ⊥
-StoppedBy stop.TooLong b there rest first now new = ⊥
+StoppedBy end b there rest first now new = ⊥
 
 -- each frame that was sent is one that fits the line
 abbrev pub AreOnLine : At → Type 0
 AreOnLine there = AllByRecursion IsOnLine (map frame_of there.sent)
 
--- Some of these events were done, and then the mote stopped.
-pub record BaseEventsHalted (why : Stop) (a : Outset) (all : List BaseEvent) (now : Option (List ℕ)) (new : Device) : Type 0 where
+-- Some of these base_events were done, and then the mote stopped.
+pub record BaseEventsHalted (why : End) (a : Outset) (all : List BaseEvent) (now : Option (List ℕ)) (new : Device) : Type 0 where
   pub done : List BaseEvent
   pub rest : List BaseEvent
   pub parts : done ++ rest ≡ all
@@ -275,14 +235,14 @@ pub record BaseEventsHalted (why : Stop) (a : Outset) (all : List BaseEvent) (no
   pub fits : AreOnLine there
   pub by : StoppedBy why a.base there rest a.written now new
 
--- These events were done, and what was sent is written.
+-- These base_events were done, and what was sent is written.
 pub record CompletedOn (a : Outset) (all : List BaseEvent) (now : CodeAt) : Type 0 where
   pub there : At
   pub stood : Stood a.base a.store all now.mote now.chip.image there
   pub put : Puts a.written now.written (line_sent there)
   pub fits : AreOnLine there
 
-abbrev pub ContinueEnds : {T : Type 0} → Result T Stop → Outset → (all : List BaseEvent) → CodeAt → Type 0
+abbrev pub ContinueEnds : {T : Type 0} → Result T End → Outset → (all : List BaseEvent) → CodeAt → Type 0
 ContinueEnds (Ok x) a all now = CompletedOn a all now
 ContinueEnds (Err why) a all now = BaseEventsHalted why a all now.written now.chip
 
@@ -293,7 +253,7 @@ pub record StreamPlayed (a : Outset) (stream : List ℕ) (now : LineAt) : Type 0
   pub line : now.reading ≡ reading_behind stream
   pub went : CompletedOn a (base_events_of stream) now.code
 
-abbrev pub StreamEnds : {T : Type 0} → Result T Stop → Outset → (stream : List ℕ) → LineAt → Type 0
+abbrev pub StreamEnds : {T : Type 0} → Result T End → Outset → (stream : List ℕ) → LineAt → Type 0
 StreamEnds (Ok x) a stream now = StreamPlayed a stream now
 StreamEnds (Err why) a stream now = BaseEventsHalted why a (base_events_of stream) now.code.written now.code.chip
 
@@ -310,18 +270,18 @@ pub record PieceRead (a : Outset) (stream : List ℕ) (most count : ℕ)
   pub ended : count ≡ 0 → AtEnd left_now
 
 -- The mote halted in a piece.
-pub record PieceHalted (why : Stop) (a : Outset) (stream : List ℕ) (most : ℕ)
+pub record PieceHalted (why : End) (a : Outset) (stream : List ℕ) (most : ℕ)
     (left_old left_now : Option (List ℕ)) (now : CodeAt) : Type 0 where
   pub more : List ℕ
   pub taken : Takes left_old left_now more
   pub few : length more ≤ most
   pub halted : BaseEventsHalted why a (base_events_of (stream ++ more)) now.written now.chip
 
-abbrev pub PieceFails : Stop → Outset → (stream : List ℕ) (most : ℕ) (left_old left_now : Option (List ℕ)) → LineAt → Type 0
-PieceFails stop.Read a stream most left_old left_now now = Takes left_old left_now [] × StreamPlayed a stream now
+abbrev pub PieceFails : End → Outset → (stream : List ℕ) (most : ℕ) (left_old left_now : Option (List ℕ)) → LineAt → Type 0
+PieceFails ends.ReadFault a stream most left_old left_now now = Takes left_old left_now [] × StreamPlayed a stream now
 PieceFails why a stream most left_old left_now now = PieceHalted why a stream most left_old left_now now.code
 
-abbrev pub PieceEnds : Result ℕ Stop → Outset → (stream : List ℕ) (most : ℕ) (left_old left_now : Option (List ℕ)) → LineAt
+abbrev pub PieceEnds : Result ℕ End → Outset → (stream : List ℕ) (most : ℕ) (left_old left_now : Option (List ℕ)) → LineAt
     → Type 0
 PieceEnds (Ok count) a stream most left_old left_now now = PieceRead a stream most count left_old left_now now
 PieceEnds (Err why) a stream most left_old left_now now = PieceFails why a stream most left_old left_now now
@@ -334,25 +294,21 @@ pub record Consumed (a : Outset) (used : ℕ) (left_old left_now : Option (List 
   pub played : StreamPlayed a stream now
 
 -- It was checked whether bytes follow those that are used.
-abbrev pub LastEnds : Result (Unit {0}) Stop → (left_old left_now : Option (List ℕ)) → Type 0
+abbrev pub LastEnds : Result (Unit {0}) End → (left_old left_now : Option (List ℕ)) → Type 0
 LastEnds (Ok x) left_old left_now = Takes left_old left_now [] × AtEnd left_now
-LastEnds (Err stop.TooLong) left_old left_now = (byte : ℕ) × Takes left_old left_now (byte ∷ [])
-LastEnds (Err stop.Read) left_old left_now = Takes left_old left_now []
-LastEnds (Err stop.Memory) left_old left_now = ⊥
-LastEnds (Err stop.Write) left_old left_now = ⊥
-LastEnds (Err stop.Flash) left_old left_now = ⊥
-LastEnds (Err stop.NoImage) left_old left_now = ⊥
-LastEnds (Err stop.NotAVolume) left_old left_now = ⊥
+LastEnds (Err ends.TooLong) left_old left_now = (byte : ℕ) × Takes left_old left_now (byte ∷ [])
+LastEnds (Err ends.ReadFault) left_old left_now = Takes left_old left_now []
+LastEnds (Err end) left_old left_now = ⊥
 
 -- how the input ended, after these bytes of it were taken
-abbrev pub InputBy : Result (Unit {0}) Stop → Outset → (input : List ℕ) (left : Option (List ℕ)) → LineAt → Type 0
+abbrev pub InputBy : Result (Unit {0}) End → Outset → (input : List ℕ) (left : Option (List ℕ)) → LineAt → Type 0
 InputBy (Ok x) a input left now = StreamPlayed a (take most_input input) now × AtEnd left × (length input ≤ most_input)
-InputBy (Err stop.Read) a input left now = StreamPlayed a (take most_input input) now × (length input ≤ most_input)
-InputBy (Err stop.TooLong) a input left now = StreamPlayed a (take most_input input) now × (most_input < length input)
+InputBy (Err ends.ReadFault) a input left now = StreamPlayed a (take most_input input) now × (length input ≤ most_input)
+InputBy (Err ends.TooLong) a input left now = StreamPlayed a (take most_input input) now × (most_input < length input)
 InputBy (Err why) a input left now = BaseEventsHalted why a
     (base_events_of (take most_input input)) now.code.written now.code.chip
 
-pub record InputEnds (r : Result (Unit {0}) Stop) (a : Outset) (left_old left_now : Option (List ℕ)) (now : LineAt) : Type 0 where
+pub record InputEnds (r : Result (Unit {0}) End) (a : Outset) (left_old left_now : Option (List ℕ)) (now : LineAt) : Type 0 where
   pub input : List ℕ
   pub taken : Takes left_old left_now input
   pub few : length input ≤ most_input + 1

@@ -1,7 +1,8 @@
 use Rattle.std.proofs.Common.{ℕ, List, ◌∷◌, [], ◌++◌, ap, sym, ◌∙◌, append-nil}
 use Rattle.dg_serial.specs.Reading.{items_told}
 use Rattle.dg_serial.specs.declared.unstuffing.Fed.{Fed}
-use Rattle.dg_serial_base.specs.BaseEvents.{Hears, Ticks, base_events_of_items}
+use Rattle.dg_serial_base.specs.BaseEvents.{Hears, Ticks}
+use Rattle.dg_serial_base.specs.inner.Standing.{base_events_of_items}
 use Rattle.dg_serial_base.proofs.LineLemmas.{went_along, goes_along}
 use Rattle.dg_serial_base.proofs.playing.Player.play.Goals as goal
 

@@ -17,10 +17,10 @@ returns-in-Ok-clause-counts g c = counts_after c.pass.result _ _ _ c.in-Ok.ensur
 
 pub returns-in-Err-clause-ends : goal.returns-in-Err-clause-ends
 returns-in-Err-clause-ends g c = λ a done went.
-    hear_halts c.in-Err.stop a done c.args.bytes.now _ _ went (c.in-Err.ensures.ends a.base a.store done went.there went.stood)
+    hear_halts c.in-Err.end a done c.args.bytes.now _ _ went (c.in-Err.ensures.ends a.base a.store done went.there went.stood)
 
 pub returns-in-Err-clause-writes : goal.returns-in-Err-clause-writes
-returns-in-Err-clause-writes g c = let r = c.requires.stood in write_calm c.in-Err.stop r.0 r.1 r.2 _ r.3 _ _ (c.in-Err.ensures.ends r.0 r.1 r.2 r.3 r.4)
+returns-in-Err-clause-writes g c = let r = c.requires.stood in write_calm c.in-Err.end r.0 r.1 r.2 _ r.3 _ _ (c.in-Err.ensures.ends r.0 r.1 r.2 r.3 r.4)
 
 pub returns-in-Err-clause-reads : goal.returns-in-Err-clause-reads
-returns-in-Err-clause-reads g c = λ n. let r = c.requires.stood in read_calm c.in-Err.stop r.0 r.1 r.2 _ r.3 _ n (c.in-Err.ensures.ends r.0 r.1 r.2 r.3 r.4)
+returns-in-Err-clause-reads g c = λ n. let r = c.requires.stood in read_calm c.in-Err.end r.0 r.1 r.2 _ r.3 _ n (c.in-Err.ensures.ends r.0 r.1 r.2 r.3 r.4)

@@ -1,6 +1,6 @@
 use Rattle.std.proofs.Common.{ℕ, List, length, take, refl, ap, sym, ◌∙◌, subst, Ok, arith}
 use Rattle.dg_serial_base.specs.inner.Standing.{code_on_line, CountsBy, WritesBy, ReadsBy}
-use Rattle.dg_serial_base.specs.declared.stop.Stop.{Stop}
+use Rattle.dg_end.specs.declared.ends.End.{End}
 use Rattle.dg_serial_base.proofs.StartLemmas.{calm_same}
 use Rattle.dg_serial_base.proofs.InputLemmas.{piece_read, piece_halts, piece_unread, take_fits}
 use Rattle.dg_serial_base.proofs.playing.Player.play_piece.Goals as goal
@@ -35,22 +35,22 @@ returns-in-Ok-play_bytes-clause-moment g c =
 pub returns-in-Err-play_bytes-clause-ends : goal.returns-in-Err-play_bytes-clause-ends
 returns-in-Err-play_bytes-clause-ends g c = λ a stream p.
     let t = c.in-Ok.ensures.taken in
-    piece_halts c.in-Err-play_bytes.stop a stream (take c.in-Ok.count c.read_piece.new.piece) t.0 c.args.most (g.S.Source.left c.args.input.now) (g.S.Source.left c.read_piece.new.input)
+    piece_halts c.in-Err-play_bytes.end a stream (take c.in-Ok.count c.read_piece.new.piece) t.0 c.args.most (g.S.Source.left c.args.input.now) (g.S.Source.left c.read_piece.new.input)
     (code_on_line (g.K.Sink.written c.play_bytes.new.out) c.play_bytes.new.self.running c.play_bytes.new.self.line (g.N.Nor.device c.play_bytes.new.nor)) t.3.1 t.1 t.2 (c.in-Err-play_bytes.ensures.ends a stream p)
 
 pub returns-in-Err-play_bytes-clause-reads : goal.returns-in-Err-play_bytes-clause-reads
 returns-in-Err-play_bytes-clause-reads g c =
     let f = g.S.Source.faults c.args.input.now in
-    subst (λ (n : ℕ). ReadsBy c.in-Err-play_bytes.stop f n) (sym c.in-Ok.ensures.counts) (c.in-Err-play_bytes.ensures.reads f)
+    subst (λ (n : ℕ). ReadsBy c.in-Err-play_bytes.end f n) (sym c.in-Ok.ensures.counts) (c.in-Err-play_bytes.ensures.reads f)
 
 pub returns-in-Err-clause-ends : goal.returns-in-Err-clause-ends
 returns-in-Err-clause-ends g c = λ a stream p.
     let t = c.in-Err.ensures.taken in
-    piece_unread c.in-Err.stop a stream t.0 c.args.most (g.S.Source.left c.args.input.now) (g.S.Source.left c.read_piece.new.input)
+    piece_unread c.in-Err.end a stream t.0 c.args.most (g.S.Source.left c.args.input.now) (g.S.Source.left c.read_piece.new.input)
     (code_on_line (g.K.Sink.written c.args.out.now) c.args.self.now.running c.args.self.now.line (g.N.Nor.device c.args.nor.now)) c.in-Err.ensures.why t.4 t.1 p
 
 pub returns-in-Err-clause-counts : goal.returns-in-Err-clause-counts
-returns-in-Err-clause-counts g c = let a = g.N.Nor.device c.args.nor.now in subst (λ (x : Stop). CountsBy x a a) (sym c.in-Err.ensures.why) (calm_same a)
+returns-in-Err-clause-counts g c = let a = g.N.Nor.device c.args.nor.now in subst (λ (x : End). CountsBy x a a) (sym c.in-Err.ensures.why) (calm_same a)
 
 pub returns-in-Err-clause-writes : goal.returns-in-Err-clause-writes
-returns-in-Err-clause-writes g c = let n = g.K.Sink.faults c.args.out.now in subst (λ (x : Stop). WritesBy x n n) (sym c.in-Err.ensures.why) refl
+returns-in-Err-clause-writes g c = let n = g.K.Sink.faults c.args.out.now in subst (λ (x : End). WritesBy x n n) (sym c.in-Err.ensures.why) refl

@@ -4,7 +4,7 @@ use Rattle.dg_node.specs.Ends.{Quiet, Stopped}
 use Rattle.dg_serial_base.specs.BaseEvents.{Hears}
 use Rattle.dg_serial_base.specs.inner.Standing.{BaseEventEnds, base_event_left}
 use Rattle.dg_serial_base.specs.declared.running.Running.{Running}
-use Rattle.dg_serial_base.specs.declared.stop.Stop.TheVariants as stop
+use Rattle.dg_end.specs.declared.ends.End.TheVariants as ends
 use Rattle.dg_serial_base.proofs.BaseEventLemmas.{timely_next, done_at}
 use Rattle.dg_serial_base.proofs.ResultLemmas.{handed}
 use Rattle.dg_serial_base.proofs.running.Running.hear.Goals as goal
@@ -21,7 +21,7 @@ returns-in_err-hear-clause-ends g c = λ b s done before stood.
     let u : Running = record { node = c.hear.new.self; timeline = c.next-timing.new.self } in
     let new = g.N.Nor.device c.hear.new.board in
     let timely = timely_next c.a_mote_stays_timely.ensures.later stood.state _ _ _ _ stood.timely c.next-timing.ensures.now c.next-timing.ensures.moment in
-    handed (λ r. BaseEventEnds r b s done (Hears bytes) before (base_event_left u new None)) c.from_residual.result stop.Flash c.from_residual.ensures.1
+    handed (λ r. BaseEventEnds r b s done (Hears bytes) before (base_event_left u new None)) c.from_residual.result ends.FlashFault c.from_residual.ensures.1
     (done_at b s done before c.args.self.now _ stood (Hears bytes) (λ now word. frame_effect stood.state before.store now word bytes) t.now t.word (c.next-timing.ensures.drawn b before.events stood.time) refl
     Stopped u (g.N.Nor.device c.args.nor.now) new None c.next-timing.ensures.now (c.next-timing.ensures.time b before.events stood.time) stood.mote.mounted.stands (c.in_err-hear.ensures.done stood.state before.store stood.mote)
     (c.a_node_stays_timely.ensures.heard stood.state before.store t.now t.word bytes timely))

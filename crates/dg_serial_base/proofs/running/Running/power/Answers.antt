@@ -1,8 +1,9 @@
 use Rattle.std.proofs.Common.{[], true, refl, None}
 use Rattle.dg_mote.specs.Effects.{reset_effect}
 use Rattle.dg_serial_base.specs.BaseEvents.{Base, powered}
-use Rattle.dg_serial_base.specs.inner.Standing.{PowerEnds, NoneEnds, Counts}
-use Rattle.dg_serial_base.specs.inner.Stops.{stop_of_start}
+use Rattle.dg_serial_base.specs.inner.Standing.{PowerEnds, Counts}
+use Rattle.dg_end.specs.Conversions.{end_of_boot}
+use Rattle.dg_serial_base.specs.Based.{RefusedBy}
 use Rattle.dg_serial_base.specs.declared.running.Running.{Running}
 use Rattle.dg_serial_base.proofs.PowerLemmas.{power_stood, power_fails}
 use Rattle.dg_serial_base.proofs.ResultLemmas.{handed}
@@ -16,8 +17,8 @@ returns-in_err-powered-clause-ends g c = λ s stands.
     let t = c.next-timing.result in
     let f = c.in_err-powered.field-0.0 in
     let new = g.N.Nor.device c.power.new.board in
-    handed (λ r. PowerEnds r b s new) c.from_residual.result (stop_of_start f) c.from_residual.ensures.1
-    (power_fails b s (stop_of_start f) t.now t.word drawn.0 drawn.1 new
+    handed (λ r. PowerEnds r b s new) c.from_residual.result (end_of_boot f) c.from_residual.ensures.1
+    (power_fails b s (end_of_boot f) t.now t.word drawn.0 drawn.1 new
     (start_failed None (reset_effect s b.id true t.now t.word) None (g.N.Nor.device c.args.nor.now) new f s None (c.in_err-powered.ensures.done s None stands) stands))
 
 pub returns-in_err-powered-clause-none : goal.returns-in_err-powered-clause-none
@@ -25,7 +26,7 @@ returns-in_err-powered-clause-none g c = λ none.
     let f = c.in_err-powered.field-0.0 in
     let a = g.N.Nor.device c.args.nor.now in
     let new = g.N.Nor.device c.power.new.board in
-    handed (λ r. NoneEnds r a new) c.from_residual.result (stop_of_start f) c.from_residual.ensures.1 (start_none f a new c.in_err-powered.ensures.finds none)
+    handed (λ r. RefusedBy r a new) c.from_residual.result (end_of_boot f) c.from_residual.ensures.1 (start_none Running f a new c.in_err-powered.ensures.finds none)
 
 pub returns-in_err-powered-clause-counts : goal.returns-in_err-powered-clause-counts
 returns-in_err-powered-clause-counts g c =
@@ -33,7 +34,7 @@ returns-in_err-powered-clause-counts g c =
     let t = c.next-timing.result in
     let a = g.N.Nor.device c.args.nor.now in
     let new = g.N.Nor.device c.power.new.board in
-    handed (λ r. Counts r a new) c.from_residual.result (stop_of_start f) c.from_residual.ensures.1
+    handed (λ r. Counts r a new) c.from_residual.result (end_of_boot f) c.from_residual.ensures.1
     (start_counts f (λ s. reset_effect s c.args.id true t.now t.word) None None a new c.in_err-powered.ensures.finds (λ s stands. c.in_err-powered.ensures.done s None stands))
 
 pub returns-clause-ends : goal.returns-clause-ends
