@@ -6,8 +6,7 @@ use Rattle.dg_base.specs.Numbers.{number_of}
 use Rattle.dg_base.specs.declared.answers.Status.TheVariants as statuses
 use Rattle.dg_base.proofs.NumberLemmas.{number_of-decimal}
 use Rattle.dg_base.proofs.HexLemmas.{length-hex_text}
-use Rattle.dg_drip_script.specs.Reports.{fault_word}
-use Rattle.dg_drip_script.specs.Reports.{bad_drip_line as bad_nodes_line}
+use Rattle.dg_drip_script.specs.Lines.{line_fault}
 use Rattle.dg_drip_script.specs.declared.line.DripFault.{DripFault}
 use Rattle.dg_drip_script.specs.declared.line.DripFault.TheVariants as nodes
 use Rattle.dg_ihex.specs.Causes.{cause_text}
@@ -21,7 +20,7 @@ use Rattle.dg_script.specs.Words.{split_of, words_of, behind_spaces}
 use Rattle.dg_script.specs.declared.fault.LineFault.{LineFault}
 use Rattle.dg_script.specs.declared.fault.LineFault.TheVariants as lines
 use Rattle.dg_script.proofs.WordsReadLemmas.{IsWord, words_spaced, number, hex_lacks}
-use Rattle.dg_end.specs.Lines.{last_line, refusal_text, status_of}
+use Rattle.dg_end.specs.Lines.{bad_line, last_line, refusal_text, status_of}
 use Rattle.dg_end.specs.Texts.{line, numbers}
 use Rattle.dg_end.specs.declared.ends.End.{End}
 use Rattle.dg_end.specs.declared.ends.End.TheVariants as ends
@@ -159,11 +158,8 @@ script_word lines.Cut = record { some = omega arith; whole = refl }
 script_word lines.Long = record { some = omega arith; whole = refl }
 script_word lines.Memory = record { some = omega arith; whole = refl }
 
-nodes_word : (cause : DripFault) → IsWord (fault_word cause)
-nodes_word nodes.Long = record { some = omega arith; whole = refl }
-nodes_word nodes.Verb = record { some = omega arith; whole = refl }
-nodes_word nodes.Place = record { some = omega arith; whole = refl }
-nodes_word nodes.Number = record { some = omega arith; whole = refl }
+nodes_word : (cause : DripFault) → IsWord (fault_name (line_fault cause))
+nodes_word cause = script_word (line_fault cause)
 
 hex_reads : (what : Reads) (cause : HexCause) (n : ℕ) → what ≢ reads.Nodes → n < 2 ^ 32
     → bad_input_told what (codes "line" ∷ decimal n ∷ cause_text cause ∷ []) ≡ hex_end what n cause
@@ -222,7 +218,7 @@ script_reads reads.Other lines.Long n other small = ap (λ k. told.Script lines.
 script_reads reads.Other lines.Memory n other small = refl
 
 nodes_reads : (cause : DripFault) (n : ℕ) → n < 2 ^ 32
-    → bad_input_told reads.Nodes (codes "line" ∷ decimal n ∷ fault_word cause ∷ []) ≡ told.Nodes cause n
+    → bad_input_told reads.Nodes (codes "line" ∷ decimal n ∷ fault_name (line_fault cause) ∷ []) ≡ told.Nodes cause n
 nodes_reads nodes.Long n small = ap (λ k. told.Nodes nodes.Long (or_zero k)) (number_of-decimal n small)
 nodes_reads nodes.Verb n small = ap (λ k. told.Nodes nodes.Verb (or_zero k)) (number_of-decimal n small)
 nodes_reads nodes.Place n small = ap (λ k. told.Nodes nodes.Place (or_zero k)) (number_of-decimal n small)
@@ -271,13 +267,10 @@ end_reads ends.WriteFault text what in_memory other fits e = cc
 end_reads ends.FlashFault text what in_memory other fits e = cc
 end_reads ends.LinkFault text what in_memory other fits e = cc
 
-nodes_line : (n : ℕ) (cause : DripFault) → line (codes "line" ++ numbers (n ∷ []) ++ 32 ∷ fault_word cause) ≡ bad_nodes_line n cause
-nodes_line n cause = refl
-
-pub nodes_end_reads : (n : ℕ) (cause : DripFault) (text : List ℕ) (in_memory : Bool) → n < 2 ^ 32 → bad_nodes_line n cause ≡ line text
+pub nodes_end_reads : (n : ℕ) (cause : DripFault) (text : List ℕ) (in_memory : Bool) → n < 2 ^ 32 → bad_line n (fault_name (line_fault cause)) ≡ line text
     → last_line_told statuses.BadInput reads.Nodes in_memory text ≡ told.Nodes cause n
 nodes_end_reads n cause text in_memory small e =
-    ap (bad_input_told reads.Nodes) (number_line_words (codes "line") (fault_word cause) text n is_line (nodes_word cause) small (ap Some (nodes_line n cause ∙ e)))
+    ap (bad_input_told reads.Nodes) (number_line_words (codes "line") (fault_name (line_fault cause)) text n is_line (nodes_word cause) small (ap Some e))
     ∙ nodes_reads cause n small
 
 pub ends_have_lines : (end : End) (text : List ℕ) → last_line end ≡ Some text → has_last_line (status_of end) ≡ true

@@ -2,11 +2,12 @@
 ghost use Rattle.std.specs.Prelude.{◌≡◌, ◌≢◌, ◌<◌, ◌^◌, ℕ, Bool, true, List, [], Some, not};
 ghost use Rattle.std.specs.List.{list_all};
 ghost use Rattle.dg_base.specs.declared.answers.Status.TheVariants as statuses;
-ghost use Rattle.dg_drip_script.specs.Reports.{bad_drip_line};
+ghost use Rattle.dg_drip_script.specs.Lines.{line_fault};
 ghost use Rattle.dg_drip_script.specs.declared.line.DripFault.{DripFault};
-ghost use Rattle.dg_end.specs.Lines.{last_line, status_of};
+ghost use Rattle.dg_end.specs.Lines.{bad_line, last_line, status_of};
 ghost use Rattle.dg_end.specs.Texts.{line};
 ghost use Rattle.dg_end.specs.declared.ends.End.{End};
+ghost use Rattle.dg_script.specs.Faults.{fault_name};
 ghost use Rattle.dg_messages.specs.Keeping.{MayEnd};
 ghost use Rattle.dg_messages.specs.LastLines.{EndFits, end_told, has_last_line, last_line_told};
 ghost use Rattle.dg_messages.specs.Sentences.{sentence_of};
@@ -34,7 +35,7 @@ pub fn each_last_line_is_read()
         → last_line end ≡ Some (line text)
         → last_line_told (status_of end) what in_memory text ≡ end_told what in_memory end }
     ensures nodes { (number : ℕ) (cause : DripFault) (text : List ℕ) (in_memory : Bool) → number < 2 ^ 32
-        → bad_drip_line number cause ≡ line text
+        → bad_line number (fault_name (line_fault cause)) ≡ line text
         → last_line_told statuses.BadInput reads.Nodes in_memory text ≡ told.Nodes cause number }
 {}
 
