@@ -19,7 +19,7 @@ use Rattle.dg_end.specs.Lines.{Outcome}
 use Rattle.dg_end.specs.Writes.{WritesLast, WritesAnswer}
 use Rattle.dg_end.proofs.AnswerLemmas.{answered_done}
 use Rattle.dg_end.specs.declared.ends.End.TheVariants as ends
-use Rattle.dg_tool.specs.Endings.{VerbEnding, Reading, Acting, no_board, outcome_of, verb_by_boards}
+use Rattle.dg_tool.specs.Endings.{VerbEnding, Before, Reading, Acting, outcome_of, verb_by_boards}
 use Rattle.dg_tool.specs.Done.{NeedsBoard, EndsAs}
 use Rattle.dg_tool.specs.inner.OneBoard.{OnStore}
 use Rattle.dg_tool.proofs.BoardLemmas.{by_some, written_back}
@@ -103,7 +103,7 @@ whole_by : (b : Bool) (root : List ℕ) (h : Held) (text : List ℕ) → Ok text
 whole_by true root h text e = fine_by text (answer_of root (drop 1 h.complete)) e
 whole_by false root h text e = absurd cc
 
-boards_by : (b : Bool) (ending : VerbEnding) (text : List ℕ) → Ok text ≡ outcome_of (cond b ending no_board) → Ok text ≡ outcome_of ending
+boards_by : (b : Bool) (ending : VerbEnding) (text : List ℕ) → Ok text ≡ outcome_of (cond b ending (Before (ends.NoBoard 1 0))) → Ok text ≡ outcome_of ending
 boards_by true ending text e = e
 boards_by false ending text e = absurd cc
 

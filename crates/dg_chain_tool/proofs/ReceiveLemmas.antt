@@ -42,7 +42,8 @@ use Rattle.dg_tool.proofs.TrailLemmas.{looked_same}
 use Rattle.dg_words.specs.Counts.{Rose}
 use Rattle.dg_outside.specs.Outside.{InputState}
 use Rattle.dg_tool.specs.Endings.{FirstAs}
-use Rattle.dg_tool.specs.Done.{CompletedOn, VerbStopsOn, OnBoards, FedBoards}
+use Rattle.dg_tool.specs.Done.{VerbStopsOn, OnBoards, FedBoards}
+use Rattle.dg_tool.specs.inner.OnChip.{CompletedOn}
 use Rattle.dg_tool.specs.Rules.{trail_rule}
 use Rattle.dg_tool.specs.Input.{ImageRead, end_of_image}
 use Rattle.dg_tool.specs.declared.input.ImageFault.{ImageFault}

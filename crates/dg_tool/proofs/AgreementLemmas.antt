@@ -26,7 +26,8 @@ use Rattle.dg_end.specs.Writes.{CommandEnds}
 use Rattle.dg_end.specs.declared.ends.End.TheVariants as ends
 use Rattle.dg_tool.specs.Endings.{VerbEnding, Before, Reading, Acting, verb_by_boards, FirstAs, FirstInForm, content_in}
 use Rattle.dg_tool.specs.Verbs.{order_on, power_boot}
-use Rattle.dg_tool.specs.Done.{verb_rule, Completed, CompletedOn, VerbStopsOn, BootedOn, MigratedOn, ActsAs, EndsAs, AtFirst, OnBoards, FirstDone, InputDone}
+use Rattle.dg_tool.specs.Done.{verb_rule, Completed, VerbStopsOn, ActsAs, EndsAs, AtFirst, OnBoards, FirstDone, InputDone}
+use Rattle.dg_tool.specs.inner.OnChip.{CompletedOn, BootedOn, MigratedOn}
 use Rattle.dg_tool.specs.Agreement.{BoardAgrees, HasNewRow, KeepsAgreement}
 use Rattle.dg_tool.specs.Rules.{AnyTable, trail_rule, inject_rule, boot_rule, migrate_rule, InjectDone, OrderDone, BootDone, MigrateDone}
 use Rattle.dg_tool.proofs.BoardLemmas.{same_some}

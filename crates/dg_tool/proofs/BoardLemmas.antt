@@ -10,7 +10,7 @@ use Rattle.dg_volume.specs.Store.{Store}
 use Rattle.dg_end.specs.Lines.{Outcome, text_outcome}
 use Rattle.dg_end.specs.declared.ends.End.{End}
 use Rattle.dg_end.specs.declared.ends.End.TheVariants as ends
-use Rattle.dg_tool.specs.Endings.{VerbEnding, no_board, outcome_of, verb_by_boards, StandsAs, FirstAs}
+use Rattle.dg_tool.specs.Endings.{VerbEnding, Before, outcome_of, verb_by_boards, StandsAs, FirstAs}
 use Rattle.dg_tool.specs.Done.{VerbRule, verb_rule, ActsAs, EndsAs, IsBefore, AtFirst, OnBoards}
 use Rattle.dg_tool.specs.inner.OneBoard.{OnBoard}
 use Rattle.dg_tool.proofs.OutcomeLemmas.{at_end, acts_as, ends_as}
@@ -22,10 +22,10 @@ lt_false : (k n : ℕ) → n ≡ k → nat_lt k n ≡ false
 lt_false k n h = grind (arith, nat_tests)
 
 pub by_some : (n : ℕ) (e : VerbEnding) → 0 < n → verb_by_boards n e ≡ e
-by_some n e some = ap (λ (b : Bool). cond b e no_board) (lt_true 0 n some)
+by_some n e some = ap (λ (b : Bool). cond b e (Before (ends.NoBoard 1 0))) (lt_true 0 n some)
 
-pub by_none : (n : ℕ) (e : VerbEnding) → n ≡ 0 → verb_by_boards n e ≡ no_board
-by_none n e none = ap (λ (b : Bool). cond b e no_board) (lt_false 0 n none)
+pub by_none : (n : ℕ) (e : VerbEnding) → n ≡ 0 → verb_by_boards n e ≡ Before (ends.NoBoard 1 0)
+by_none n e none = ap (λ (b : Bool). cond b e (Before (ends.NoBoard 1 0))) (lt_false 0 n none)
 
 pub same_some : {A : Type 0} (x y : A) → Some x ≡ Some y → x ≡ y
 same_some x y e = cc

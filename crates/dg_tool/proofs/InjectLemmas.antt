@@ -23,7 +23,8 @@ use Rattle.dg_tool.specs.Input.{ImageRead, end_of_image}
 use Rattle.dg_tool.specs.Rules.{trail_rule, inject_rule}
 use Rattle.dg_tool.specs.Endings.{FirstAs}
 use Rattle.dg_tool.specs.Verbs.{have_text, inject_ending_by, inject_into}
-use Rattle.dg_tool.specs.Done.{Completed, CompletedOn, VerbStopsOn, NeedsBoard, NeedsInput, OnBoards, FedBoards}
+use Rattle.dg_tool.specs.Done.{Completed, VerbStopsOn, NeedsBoard, NeedsInput, OnBoards, FedBoards}
+use Rattle.dg_tool.specs.inner.OnChip.{CompletedOn}
 use Rattle.dg_tool.specs.inner.OneBoard.{OnStore}
 use Rattle.dg_tool.proofs.OutcomeLemmas.{made_store, memory_store, refused_store, stopped_store, halts_stopped}
 use Rattle.dg_tool.proofs.BoardLemmas.{some_mapped}

@@ -37,7 +37,8 @@ use Rattle.dg_tool.specs.Rules.{boot_rule, format_rule}
 use Rattle.dg_tool.specs.Endings.{VerbEnding, Before, Reading, Acting, by_store, StandsAs, FirstInForm}
 use Rattle.dg_tool.specs.Verbs.{room_text, format_sized, start_text, power_boot, start_by, form_text, migrate_by}
 use Rattle.dg_tool.specs.inner.Started.{TellsStarted}
-use Rattle.dg_tool.specs.Done.{verb_rule, NeedsInput, NeedsBoard, VerbStopsOn, Booted, BootedOn, Migrated, IsFormatted, FormattingStops, IsBoardStopped, OnBoards, FedBoards}
+use Rattle.dg_tool.specs.Done.{verb_rule, NeedsInput, NeedsBoard, VerbStopsOn, Booted, Migrated, IsFormatted, FormattingStops, IsBoardStopped, OnBoards, FedBoards}
+use Rattle.dg_tool.specs.inner.OnChip.{BootedOn}
 use Rattle.dg_tool.specs.inner.OneBoard.{OnStore, OnBoard}
 use Rattle.dg_tool.proofs.OutcomeLemmas.{made_store, memory_store, refused_store, stopped_store, image_store, halts_stopped, on_volume, stopped_board, no_volume}
 use Rattle.dg_tool.proofs.BoardLemmas.{some_mapped, on_first, on_any}

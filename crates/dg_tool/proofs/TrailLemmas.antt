@@ -23,7 +23,8 @@ use Rattle.dg_end.specs.declared.ends.End.TheVariants as ends
 use Rattle.dg_end.specs.declared.refusal.Refusal.TheVariants as refusals
 use Rattle.dg_tool.specs.Endings.{VerbEnding, by_store, StandsAs, FirstAs}
 use Rattle.dg_tool.specs.Verbs.{order_text, order_by}
-use Rattle.dg_tool.specs.Done.{verb_rule, Completed, CompletedOn, VerbStopsOn, NeedsBoard, OnBoards}
+use Rattle.dg_tool.specs.Done.{verb_rule, Completed, VerbStopsOn, NeedsBoard, OnBoards}
+use Rattle.dg_tool.specs.inner.OnChip.{CompletedOn}
 use Rattle.dg_tool.specs.inner.OneBoard.{OnStore}
 use Rattle.dg_tool.proofs.OutcomeLemmas.{on_volume, unmounted, made_store, memory_store, refused_store, stopped_store, looked_store, halts_stopped}
 use Rattle.dg_tool.proofs.BoardLemmas.{on_first}

@@ -30,10 +30,10 @@ pub record Completed (t : Trail Store) (a b : Device) : Type 0 where
   pub ran : Ran (operations t) a b
   pub stands : Stands b.image (last t)
 
--- an act that makes this trail of the board's store was done; only a volume is acted on
-abbrev pub CompletedOn : (Store → Trail Store) → Option Store → Device → Device → Type 0
-CompletedOn trail None a b = ⊥
-CompletedOn trail (Some s) a b = Completed (trail s) a b
+-- an act was done on the store of a volume; nothing else is acted on
+abbrev pub OnVolume : (Store → Device → Device → Type 0) → Option Store → Device → Device → Type 0
+OnVolume acted None a b = ⊥
+OnVolume acted (Some s) a b = acted s a b
 
 -- It was stopped, and this says which stores that may leave. A board that is not a volume keeps its bytes.
 abbrev pub VerbStopsOn : (Store → Trail Store) → Option Store → Device → Device → Type 0
@@ -44,10 +44,6 @@ VerbStopsOn trail (Some s) a b = Stops (trail s) a b
 pub record Migrated (form : ℕ) (s : Store) (a b : Device) : Type 0 where
   pub went : Completed (migrate_trail form s) a b
   pub written : HasForm b.image new_form
-
-abbrev pub MigratedOn : ℕ → Option Store → Device → Device → Type 0
-MigratedOn form None a b = ⊥
-MigratedOn form (Some s) a b = Migrated form s a b
 
 -- the board is a volume that keeps golden alone, in this form
 pub record IsFormatted (name golden : List ℕ) (used form : ℕ) (a b : Device) : Type 0 where
@@ -64,10 +60,6 @@ pub record FormattingStops (name golden : List ℕ) (used : ℕ) (a b : Device) 
 pub record Booted (boot : Boot) (a b : Device) : Type 0 where
   pub went : Completed boot.trail a b
   pub memory : IfSome boot.runs (λ r. program b.image (length r.pages) ≡ r.pages)
-
-abbrev pub BootedOn : (Store → Boot) → Option Store → Device → Device → Type 0
-BootedOn boot None a b = ⊥
-BootedOn boot (Some s) a b = Booted (boot s) a b
 
 -- ---- the outcome of a verb, and how it leaves the board, or the boards
 

@@ -27,11 +27,8 @@ outcome_of (Acting outcome) = outcome
 
 -- ---- the order of causes: the board that is there, the input, and then what the board holds
 
-abbrev pub no_board : VerbEnding
-no_board = Before (ends.NoBoard 1 0)
-
 abbrev pub verb_by_boards : ℕ → VerbEnding → VerbEnding
-verb_by_boards boards next = if nat_lt 0 boards then next else no_board
+verb_by_boards boards next = if nat_lt 0 boards then next else Before (ends.NoBoard 1 0)
 
 abbrev pub by_file : Result (List ℕ) HexFileFault → (List ℕ → VerbEnding) → VerbEnding
 by_file (Ok image) next = next image

@@ -11,14 +11,14 @@ use Rattle.dg_volume.specs.Trails.{inject_trail, order_trail, migrate_trail}
 use Rattle.dg_outside.specs.Outside.{Outside}
 use Rattle.dg_tool.specs.Endings.{VerbEnding, FirstAs, FirstInForm, by_input, content_in}
 use Rattle.dg_tool.specs.Verbs.{format_sized, inject_into, order_on, boot_on, power_boot, ping_on, dump_on, migrate_on}
-use Rattle.dg_tool.specs.Done.{VerbRule, verb_rule, CompletedOn, VerbStopsOn, IsFormatted, FormattingStops, BootedOn, MigratedOn}
+use Rattle.dg_tool.specs.Done.{VerbRule, verb_rule, Completed, OnVolume, VerbStopsOn, IsFormatted, FormattingStops, Booted}
 use Rattle.dg_end.specs.Writes.{CommandEnds}
-use Rattle.dg_tool.specs.Done.{OnBoards, FirstDone, InputDone}
+use Rattle.dg_tool.specs.Done.{Migrated, OnBoards, FirstDone, InputDone}
 use Rattle.dg_tool.specs.Agreement.{HasNewRow, KeepsAgreement}
 
 -- a volume completes a trail of stores
 abbrev pub trail_rule : List Device → (Option Store → VerbEnding) → (Store → Trail Store) → VerbRule
-trail_rule boards ending trail = verb_rule (FirstAs boards) ending (CompletedOn trail) (VerbStopsOn trail)
+trail_rule boards ending trail = verb_rule (FirstAs boards) ending (OnVolume (λ s. Completed (trail s))) (VerbStopsOn trail)
 
 -- a volume is only read
 abbrev pub reading_rule : List Device → (Option Store → VerbEnding) → VerbRule
@@ -37,10 +37,12 @@ inject_rule boards row input =
     (λ s. inject_trail s (row (content_in input)))
 
 abbrev pub boot_rule : List Device → VerbRule
-boot_rule boards = verb_rule (FirstAs boards) boot_on (BootedOn power_boot) (VerbStopsOn (λ s. (power_boot s).trail))
+boot_rule boards =
+    verb_rule (FirstAs boards) boot_on (OnVolume (λ s. Booted (power_boot s))) (VerbStopsOn (λ s. (power_boot s).trail))
 
 abbrev pub migrate_rule : List Device → (form : ℕ) → VerbRule
-migrate_rule boards form = verb_rule (FirstAs boards) (migrate_on form) (MigratedOn form) (VerbStopsOn (migrate_trail form))
+migrate_rule boards form =
+    verb_rule (FirstAs boards) (migrate_on form) (OnVolume (Migrated form)) (VerbStopsOn (migrate_trail form))
 
 -- ---- what each did
 

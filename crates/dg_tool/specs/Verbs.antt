@@ -1,6 +1,6 @@
 -- What the verbs over the first board do, by the bytes of the input and by what the board stands for (docs/COMMANDS.md, "Over
 -- one chip").
-use Rattle.std.specs.Prelude.{ℕ, ◌==◌, ◌&&◌, ◌-◌, nat_lt, Bool, true, false, if◌then◌else◌, List, [], ◌∷◌, ◌++◌, length, codes}
+use Rattle.std.specs.Prelude.{ℕ, ◌==◌, ◌&&◌, ◌-◌, nat_lt, Bool, if◌then◌else◌, List, [], ◌∷◌, ◌++◌, length, codes}
 use Rattle.std.specs.Prelude.{◌/◌, ◌%◌, Option, Some, None, Ok, Err}
 use Rattle.std.specs.List.{flat_map, range_with_len}
 use Rattle.dg_base.specs.Hexadecimal.{hex_text}
@@ -102,14 +102,10 @@ abbrev pub program_line : Option App → List ℕ
 program_line None = line (codes "program blank")
 program_line (Some app) = line (codes "program" ++ numbers (app.image ∷ app.version ∷ []))
 
-abbrev pub waived_word : Bool → List ℕ
-waived_word true = codes " waived"
-waived_word false = []
-
 abbrev pub order_line : Order → Bool → List ℕ
 order_line o waived =
     if o.number == 0 then line (codes "order none")
-    else line (codes "order" ++ numbers (o.number ∷ o.image ∷ o.version ∷ []) ++ waived_word waived)
+    else line (codes "order" ++ numbers (o.number ∷ o.image ∷ o.version ∷ []) ++ (if waived then codes " waived" else []))
 
 -- `-` where no page has the name yet
 abbrev pub name_by : List (List ℕ) → List ℕ

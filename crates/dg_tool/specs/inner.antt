@@ -1,2 +1,3 @@
 pub mod OneBoard
+pub mod OnChip
 pub mod Started

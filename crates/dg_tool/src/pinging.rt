@@ -1,6 +1,6 @@
 //! The verb `ping`.
 ghost use Rattle.std.specs.Prelude.{◌≡◌, ◌≢◌, ◌≤◌, ◌<◌, ◌+◌, ◌-◌, ◌++◌, ◌∷◌, [], ℕ, List, Option, Some, OnOk, IfOk, codes, map};
-ghost use Rattle.std.specs.Prelude.{length};
+ghost use Rattle.std.specs.Prelude.{length, if◌then◌else◌};
 ghost use Rattle.std.specs.List.{flat_map, range_with_len};
 ghost use Rattle.dg_slot.specs.Kept.{Held, KeepsImage};
 ghost use Rattle.dg_volume.specs.Sizes.{images};
@@ -8,7 +8,7 @@ ghost use Rattle.dg_volume.specs.Store.{App, Store, held};
 ghost use Rattle.dg_volume.specs.Stands.{Mounted, IsMounted, Tells};
 ghost use Rattle.dg_volume.specs.Told.{told_held, program_told};
 ghost use Rattle.dg_end.specs.Texts.{numbers, line};
-ghost use Rattle.dg_tool.specs.Verbs.{program_line, order_line, waived_word, commits_text, ping_line, kept_lines, ping_text};
+ghost use Rattle.dg_tool.specs.Verbs.{program_line, order_line, commits_text, ping_line, kept_lines, ping_text};
 ghost use Rattle.dg_tool.specs.Verbs.{ping_on};
 ghost use Rattle.dg_tool.specs.Done.{OnBoards};
 ghost use Rattle.dg_end.specs.Lines.{text_outcome};
@@ -67,7 +67,7 @@ fn push_order(text: &mut Vec<u8>, order: &Order, waived: bool) -> Result<(), All
 
 /// Appends the word of an order that is waived.
 fn push_waived(text: &mut Vec<u8>, waived: bool) -> Result<(), AllocError>
-    ensures { OnOk result (text.new.items ≡ text.old.items ++ waived_word waived) }
+    ensures { OnOk result (text.new.items ≡ text.old.items ++ (if waived then codes " waived" else [])) }
 {
     if waived {
         text.extend_from_slice(b" waived")

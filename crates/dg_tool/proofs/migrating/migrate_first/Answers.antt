@@ -11,7 +11,8 @@ use Rattle.dg_end.specs.Texts.{numbers, line}
 use Rattle.dg_end.specs.Conversions.{end_of_mount, end_of_commit}
 use Rattle.dg_end.specs.declared.ends.End.TheVariants as ends
 use Rattle.dg_tool.specs.Verbs.{migrate_by}
-use Rattle.dg_tool.specs.Done.{MigratedOn, VerbStopsOn}
+use Rattle.dg_tool.specs.Done.{VerbStopsOn}
+use Rattle.dg_tool.specs.inner.OnChip.{MigratedOn}
 use Rattle.dg_tool.proofs.BoardLemmas.{some_of, no_boards, at_boards}
 use Rattle.dg_tool.proofs.InputLemmas.{ok_unlike}
 use Rattle.dg_tool.proofs.TrailLemmas.{stops_before, unmounted_first, acted_first, volume_of}
