@@ -1,41 +1,60 @@
 -- What the command that runs a base mote did, from the contract of its call.
-use Rattle.std.proofs.Common.{◌≡◌, ◌⊎◌, inl, inr, ◌<◌, List, [], ◌∷◌, length, map, get_or, set, refl, sym, ◌∙◌, subst, arith}
+use Rattle.std.proofs.Common.{◌≡◌, ◌≢◌, ◌<◌, ℕ, List, [], ◌∷◌, length, map, get_or, set, codes, Option, Some, Result, Ok, Err, refl, sym, ◌∙◌, arith}
 use Rattle.dg_base.specs.declared.answers.Status.{Status}
 use Rattle.dg_base.specs.declared.answers.Status.TheVariants as statuses
 use Rattle.dg_nor.specs.Device.{Device}
+use Rattle.dg_volume.specs.Store.{Store}
 use Rattle.dg_volume.specs.Stands.{IsNoVolume}
+use Rattle.dg_outside.specs.Outside.{OutputState, Outside}
+use Rattle.dg_end.specs.Texts.{line}
+use Rattle.dg_end.specs.Lines.{outcome_status, finish_line}
+use Rattle.dg_end.specs.Writes.{WritesLast}
+use Rattle.dg_end.specs.declared.ends.End.{End}
+use Rattle.dg_end.specs.declared.ends.End.TheVariants as ends
+use Rattle.dg_end.proofs.AnswerLemmas.{written_status}
 use Rattle.dg_serial_base.specs.BaseEvents.{Base}
-use Rattle.dg_serial_base.specs.Based.{BaseOutside, BaseEndsBy, RefusedBy}
-use Rattle.dg_replay.specs.Around.{Around}
-use Rattle.dg_cli.specs.Basing.{around_chip, BasedOn, NoBoardReported, BasedOver}
+use Rattle.dg_serial_base.specs.Based.{BaseEndsBy, RefusedBy, Based}
+use Rattle.dg_serial_base.specs.Done.{BasedOn}
+use Rattle.dg_cli.specs.Words.{TextDone}
+use Rattle.dg_cli.specs.Basing.{BasedOver}
 
 -- ---- the first of the boards
 
-pub over_none : {N : Type 0} (f : N → Device) (items : List N) (base : Base) (status : Status) (a b : Around) → length items ≡ 0 → NoBoardReported status a b → BasedOver base status a b (map f items) (map f items)
+pub over_none : {N : Type 0} (f : N → Device) (items : List N) (base : Base) (status : Status) (a b : Outside) → length items ≡ 0 → TextDone (line (codes "noboard 1 0")) statuses.NoBoard status a b → BasedOver base status a b (map f items) (map f items)
 over_none f [] base status a b none h = h
 over_none f (x ∷ xs) base status a b none h = absurd (omega (arith, none))
 
-pub over_first : {N : Type 0} (f : N → Device) (items : List N) (x y : N) (base : Base) (status : Status) (a b : Around) → 0 < length items
-    → BasedOn base status (around_chip a (f (get_or items 0 x))) (around_chip b (f y)) → BasedOver base status a b (map f items) (map f (set items 0 y))
+pub over_first : {N : Type 0} (f : N → Device) (items : List N) (x y : N) (base : Base) (status : Status) (a b : Outside) → 0 < length items
+    → BasedOn base status (f (get_or items 0 x)) (f y) a b → BasedOver base status a b (map f items) (map f (set items 0 y))
 over_first f [] x y base status a b some h = absurd (omega (arith, some))
 over_first f (z ∷ zs) x y base status a b some h = (h, refl)
 
 -- ---- it never ends by a fault of the link
 
-is_none : (status : Status) (base : Base) (before now : BaseOutside) → status ≡ statuses.LinkFault → BasedOn base status before now → IsNoVolume before.chip.image
-is_none status base before now e h s stands =
+is_link : (status wanted : Status) (line : Option (List ℕ)) (a b : OutputState) → status ≡ statuses.LinkFault → WritesLast status wanted line a b → statuses.LinkFault ≡ wanted
+is_link status wanted line a b is h =
+    sym is ∙ written_status status wanted line a b h (λ w. let x : statuses.LinkFault ≡ statuses.WriteFault = sym is ∙ w in cc) (λ m. let x : statuses.LinkFault ≡ statuses.Memory = sym is ∙ m in cc)
+
+no_link_by : (r : Result (Unit {0}) End) (base : Base) (s : Store) (input text : List ℕ) (old new : Device) → BaseEndsBy r base s input text old new → statuses.LinkFault ≢ outcome_status r
+no_link_by (Ok u) base s input text old new h is = cc
+no_link_by (Err ends.LinkFault) base s input text old new h is = h.1
+no_link_by (Err end) base s input text old new h is = cc
+
+no_link_refused : (r : Result (Unit {0}) End) (old new : Device) → RefusedBy r old new → statuses.LinkFault ≢ outcome_status r
+no_link_refused (Err ends.NotAVolume) old new h is = cc
+no_link_refused (Err ends.FlashFault) old new h is = cc
+no_link_refused (Err end) old new h is = absurd h
+no_link_refused (Ok u) old new h is = absurd h
+
+is_none : (status : Status) (base : Base) (old new : Device) (a b : Outside) → status ≡ statuses.LinkFault → BasedOn base status old new a b → IsNoVolume old.image
+is_none status base old new a b is h s stands =
     let x = h.based s stands in
-    (subst (λ (t : Status). BaseEndsBy t base s x.input x.text before now) e x.ends).1
+    no_link_by x.outcome base s x.line.input x.line.text old new x.line.by (is_link status (outcome_status x.outcome) (finish_line x.outcome) x.between b.output is x.told)
 
-pub no_link_of_base : (status : Status) (base : Base) (before now : BaseOutside) → BasedOn base status before now → status ≡ statuses.LinkFault → ⊥
-no_link_of_base status base before now h e =
-    let r = h.refused (is_none status base before now e h) in
-    subst (λ (t : Status). RefusedBy t r.text before.chip now.chip) e r.ends
+pub no_link_of_base : (status : Status) (base : Base) (old new : Device) (a b : Outside) → BasedOn base status old new a b → status ≢ statuses.LinkFault
+no_link_of_base status base old new a b h is =
+    let r = h.refused (is_none status base old new a b is h) in
+    no_link_refused r.outcome old new r.by (is_link status (outcome_status r.outcome) (finish_line r.outcome) a.output b.output is r.told)
 
-abbrev IsNoLink : Status → Type 0
-IsNoLink statuses.LinkFault = ⊥
-IsNoLink status = Unit {0}
-
-pub no_link_told : (status : Status) (A B C D : Type 0) → ((status ≡ statuses.NoBoard) × A × B) ⊎ ((status ≡ statuses.WriteFault) × C × D) → status ≡ statuses.LinkFault → ⊥
-no_link_told status A B C D (inl h) e = subst IsNoLink (sym h.0 ∙ e) tt
-no_link_told status A B C D (inr h) e = subst IsNoLink (sym h.0 ∙ e) tt
+pub no_link_told : (status : Status) (text : List ℕ) (a b : OutputState) → WritesLast status statuses.NoBoard (Some text) a b → status ≢ statuses.LinkFault
+no_link_told status text a b h is = let x : statuses.LinkFault ≡ statuses.NoBoard = is_link status statuses.NoBoard (Some text) a b is h in cc

@@ -1,8 +1,8 @@
 -- What the program does, by what its words ask for (docs/COMMANDS.md, "How a command ends").
-use Rattle.std.specs.Prelude.{◌≡◌, ◌≢◌, ◌⊎◌, ℕ, List}
+use Rattle.std.specs.Prelude.{◌≡◌, ◌≢◌, ◌⊎◌, ℕ, List, [], codes}
 use Rattle.dg_words.specs.Counts.{Rose}
 use Rattle.dg_base.specs.declared.answers.Status.{Status}
-use Rattle.dg_base.specs.declared.answers.Status.TheVariants.{Memory, WriteFault}
+use Rattle.dg_base.specs.declared.answers.Status.TheVariants.{Done, Usage, Memory, WriteFault}
 use Rattle.dg_object.specs.Object.{Row}
 use Rattle.dg_volume.specs.Store.{Store}
 use Rattle.dg_outside.specs.Outside.{Outside}
@@ -23,8 +23,9 @@ use Rattle.dg_drip_run.specs.Causes.{DripEnds}
 use Rattle.dg_drip_run.specs.Promised.{GreatestIsKept, NothingFalls, SetsMakeAll, RoundsRaise, SweepsBringTheGreatest}
 use Rattle.dg_command.specs.Asking.{Said, Replay, Serve, Format, Inject, Order as OrderSaid, Boot, Ping, Dump, Migrate, Trial}
 use Rattle.dg_command.specs.Asking.{Wrap, Check, Receive, Drip, Base, Asking, Asks, Helps, TellsVersion, Misuses}
-use Rattle.dg_cli.specs.Words.{UsageWritten, HelpWritten, VersionWritten}
-use Rattle.dg_cli.specs.Parts.{around_of, service_of, drip_of}
+use Rattle.dg_end.specs.Texts.{line}
+use Rattle.dg_cli.specs.Words.{TextDone}
+use Rattle.dg_cli.specs.Parts.{around_of, service_of}
 use Rattle.dg_cli.specs.Basing.{BaseDone}
 use Rattle.dg_cli.specs.Chained.{root_in, Checked}
 
@@ -64,33 +65,15 @@ TrialDone motes pages seed status a b =
 
 -- no board is used, and the laws of how values spread hold of the run that was played
 pub record DripDone (status : Status) (a b : Outside) : Type 0 where
-  pub replayed : Dripped status (drip_of a) (drip_of b)
+  pub replayed : Dripped status a b
   -- each status comes where the rules say, by the bytes of the input
-  pub ends : DripEnds status (drip_of a) (drip_of b)
+  pub ends : DripEnds status a b
   pub boards : b.boards ≡ a.boards
-  pub greatest : GreatestIsKept (played replayed.script)
-  pub rises : NothingFalls (played replayed.script)
-  pub made : SetsMakeAll (played replayed.script)
-  pub rounds : RoundsRaise (played replayed.script)
-  pub sweeps : SweepsBringTheGreatest (played replayed.script)
-
--- ---- words
-
--- an invalid command line: nothing is read, no board is used, and one line is written
-pub record UsageDone (status : Status) (a b : Outside) : Type 0 where
-  pub unread : b.input ≡ a.input
-  pub boards : b.boards ≡ a.boards
-  pub written : UsageWritten status a.output.written b.output.written a.output.writes b.output.writes
-
-pub record HelpDone (status : Status) (a b : Outside) : Type 0 where
-  pub unread : b.input ≡ a.input
-  pub boards : b.boards ≡ a.boards
-  pub written : HelpWritten status a.output.written b.output.written a.output.writes b.output.writes
-
-pub record VersionDone (status : Status) (a b : Outside) : Type 0 where
-  pub unread : b.input ≡ a.input
-  pub boards : b.boards ≡ a.boards
-  pub written : VersionWritten status a.output.written b.output.written a.output.writes b.output.writes
+  pub greatest : GreatestIsKept (played replayed.came.script)
+  pub rises : NothingFalls (played replayed.came.script)
+  pub made : SetsMakeAll (played replayed.came.script)
+  pub rounds : RoundsRaise (played replayed.came.script)
+  pub sweeps : SweepsBringTheGreatest (played replayed.came.script)
 
 -- ---- all commands
 
@@ -110,14 +93,14 @@ CommandOutcome Wrap status a b = WrapDone status a b
 CommandOutcome (Check image root flash) status a b = Checked image (root_in root) status a b
 CommandOutcome (Receive image version name root flash) status a b = ReceiveDone image version name (root_in root) status a b
 CommandOutcome Drip status a b = DripDone status a b
-CommandOutcome (Base id step seed flash) status a b = BaseDone id step seed status (around_of a) (around_of b)
+CommandOutcome (Base id step seed flash) status a b = BaseDone id step seed status a b
 
--- by what the words ask for
+-- by what the words ask for: some text of help, the version, or one line if the words are invalid
 abbrev pub CommandLineOutcome : Asking → Status → Outside → Outside → Type 0
 CommandLineOutcome (Asks said) status a b = CommandOutcome said status a b
-CommandLineOutcome Helps status a b = HelpDone status a b
-CommandLineOutcome TellsVersion status a b = VersionDone status a b
-CommandLineOutcome Misuses status a b = UsageDone status a b
+CommandLineOutcome Helps status a b = (text : List ℕ) × (text ≢ []) × TextDone text Done status a b
+CommandLineOutcome TellsVersion status a b = TextDone (line (codes "deluge 0.9")) Done status a b
+CommandLineOutcome Misuses status a b = TextDone (line (codes "usage")) Usage status a b
 
 -- the words themselves may take more memory than there is, and then nothing is done
 abbrev pub CommandDone : Asking → Status → Outside → Outside → Type 0

@@ -1,7 +1,6 @@
 -- The parts of the outside that the contracts of some commands name (docs/COMMANDS.md, "How a command ends").
 use Rattle.dg_outside.specs.Outside.{Outside}
 use Rattle.dg_replay.specs.Around.{Around}
-use Rattle.dg_drip_run.specs.AroundDrip.{AroundDrip, around_drip}
 use Rattle.dg_serve.specs.Served.{ServiceOutside}
 
 -- the input, the output and the boards
@@ -25,7 +24,3 @@ service_of a = record {
   port = a.link.port;
   boards = a.boards;
 }
-
--- the input and the output
-abbrev pub drip_of : Outside → AroundDrip
-drip_of a = around_drip a.input.left a.input.reads a.output.written a.output.writes

@@ -1,9 +1,9 @@
 //! The command that runs a base mote on a serial line.
-ghost use Rattle.std.specs.Prelude.{◌≡◌, ◌≢◌, ◌≤◌, ◌⊎◌, map};
-ghost use Rattle.dg_words.specs.Counts.{Rose};
-ghost use Rattle.dg_base.specs.Outside.{Puts, PutsPrefix};
-ghost use Rattle.dg_replay.specs.Around.{around};
-ghost use Rattle.dg_cli.specs.Basing.{no_base_board_line, BaseDone};
+ghost use Rattle.std.specs.Prelude.{◌≡◌, ◌≢◌, ◌≤◌, map, Some, codes};
+ghost use Rattle.dg_outside.specs.Outside.{Outside, output_of, with_input, with_output, with_boards};
+ghost use Rattle.dg_end.specs.Texts.{line};
+ghost use Rattle.dg_end.specs.Writes.{WritesLast};
+ghost use Rattle.dg_cli.specs.Basing.{BaseDone};
 
 use dg_base::{Sink, Source, Status, WriteFailed};
 use dg_nor::Nor;
@@ -11,10 +11,9 @@ use std::alloc::Global;
 
 /// Reports that there is no board.
 fn tell_no_board<K: Sink>(out: &mut K) -> Status
-    ensures written { ((result ≡ Status.NoBoard) × Puts (K.written out.old) (K.written out.new) no_base_board_line
-        × (K.faults out.new ≡ K.faults out.old))
-        ⊎ ((result ≡ Status.WriteFault) × PutsPrefix (K.written out.old) (K.written out.new) no_base_board_line
-        × Rose (K.faults out.old) (K.faults out.new)) }
+    ensures written { WritesLast result Status.NoBoard (Some (line (codes "noboard 1 0"))) (output_of (K.Sink, out.old))
+        (output_of (K.Sink, out.new)) }
+    ensures room { result ≢ Status.Memory }
     ensures writes { K.faults out.old ≤ K.faults out.new }
 {
     match out.write(b"noboard 1 0\n") {
@@ -34,9 +33,9 @@ fn base_first<S: Source, K: Sink, N: Nor>(
     boards: &mut [N],
 ) -> Status
     requires step { step ≤ 60000 }
-    ensures done { BaseDone id step seed result
-        (around (S.left input.old) (S.faults input.old) (K.written out.old) (K.faults out.old) (map N.device boards.old))
-        (around (S.left input.new) (S.faults input.new) (K.written out.new) (K.faults out.new) (map N.device boards.new)) }
+    ensures done { (rest : Outside) → BaseDone id step seed result
+        (with_boards (map N.device boards.old) (with_output (K.Sink, out.old) (with_input (S.Source, input.old) rest)))
+        (with_boards (map N.device boards.new) (with_output (K.Sink, out.new) (with_input (S.Source, input.new) rest))) }
     ensures link { result ≢ Status.LinkFault }
     ensures reads { S.faults input.old ≤ S.faults input.new }
     ensures writes { K.faults out.old ≤ K.faults out.new }
@@ -58,9 +57,9 @@ pub(crate) fn base<S: Source, K: Sink, N: Nor>(
     boards: &mut Vec<N>,
 ) -> Status
     requires step { step ≤ 60000 }
-    ensures done { BaseDone id step seed result
-        (around (S.left input.old) (S.faults input.old) (K.written out.old) (K.faults out.old) (map N.device boards.old.items))
-        (around (S.left input.new) (S.faults input.new) (K.written out.new) (K.faults out.new) (map N.device boards.new.items)) }
+    ensures done { (rest : Outside) → BaseDone id step seed result
+        (with_boards (map N.device boards.old.items) (with_output (K.Sink, out.old) (with_input (S.Source, input.old) rest)))
+        (with_boards (map N.device boards.new.items) (with_output (K.Sink, out.new) (with_input (S.Source, input.new) rest))) }
     ensures link { result ≢ Status.LinkFault }
     ensures reads { S.faults input.old ≤ S.faults input.new }
     ensures writes { K.faults out.old ≤ K.faults out.new }

@@ -145,23 +145,25 @@ returns-in-Receive-clause-writes g c = (c.receive.ensures.does (outside (input_o
 
 pub returns-in-Drip-clause-done : goal.returns-in-Drip-clause-done
 returns-in-Drip-clause-done g c =
-    let e = c.drip.ensures in
+    let rest = (outside (input_of (g.S.Source, c.args.input.now)) (output_of (g.K.Sink, c.args.out.now)) (link_state (g.L.Link, c.args.link.now)) (g.C.Clock.told c.args.clock.now) (map g.N.Nor.device c.args.boards.now.items)) in
+    let replayed = c.drip.ensures.replayed rest in
+    let spread = c.drip.ensures.spread rest in
     said_done c.args.command.now _ c.in-Drip.is _ _ _ (record {
-      replayed = e.replayed;
-      ends = e.ends;
+      replayed = replayed;
+      ends = c.drip.ensures.ends rest;
       boards = refl;
-      greatest = e.spread.greatest e.replayed;
-      rises = e.spread.rises e.replayed;
-      made = e.spread.made e.replayed;
-      rounds = e.spread.rounds e.replayed;
-      sweeps = e.spread.sweeps e.replayed;
+      greatest = spread.greatest replayed;
+      rises = spread.rises replayed;
+      made = spread.made replayed;
+      rounds = spread.rounds replayed;
+      sweeps = spread.sweeps replayed;
     })
 
 pub returns-in-Drip-clause-link_fault : goal.returns-in-Drip-clause-link_fault
-returns-in-Drip-clause-link_fault g c = λ e. absurd (no_link_of_nodes _ _ _ c.drip.ensures.replayed e)
+returns-in-Drip-clause-link_fault g c = λ e. absurd (no_link_of_nodes _ _ _ (c.drip.ensures.replayed (outside (input_of (g.S.Source, c.args.input.now)) (output_of (g.K.Sink, c.args.out.now)) (link_state (g.L.Link, c.args.link.now)) (g.C.Clock.told c.args.clock.now) (map g.N.Nor.device c.args.boards.now.items))) e)
 
 pub returns-in-Base-clause-done : goal.returns-in-Base-clause-done
-returns-in-Base-clause-done g c = said_done c.args.command.now _ c.in-Base.is _ _ _ c.base.ensures.done
+returns-in-Base-clause-done g c = said_done c.args.command.now _ c.in-Base.is _ _ _ (c.base.ensures.done (outside (input_of (g.S.Source, c.args.input.now)) (output_of (g.K.Sink, c.args.out.now)) (link_state (g.L.Link, c.args.link.now)) (g.C.Clock.told c.args.clock.now) (map g.N.Nor.device c.args.boards.now.items)))
 
 pub returns-in-Base-clause-link_fault : goal.returns-in-Base-clause-link_fault
 returns-in-Base-clause-link_fault g c = λ e. absurd (c.base.ensures.link e)
