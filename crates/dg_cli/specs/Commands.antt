@@ -14,9 +14,9 @@ use Rattle.dg_netcfg.specs.Readings.{IsAllowed}
 use Rattle.dg_netcfg.specs.declared.profile.NetProfile.{NetProfile}
 use Rattle.dg_serve.specs.Endings.{StoresOf}
 use Rattle.dg_serve.specs.Served.{Began}
-use Rattle.dg_serve.specs.Traces.{IsScript, trace, trace_lines}
+use Rattle.dg_serve.specs.Traces.{trace, trace_lines}
 use Rattle.dg_serve.specs.Promised.{KeepsRules, ReplaysTo}
-use Rattle.dg_serve.specs.Networks.{NetworkServed, around_service}
+use Rattle.dg_serve.specs.Networks.{NetworkServed}
 use Rattle.dg_trial.specs.Trials.{TrialEnds}
 use Rattle.dg_drip_run.specs.Dripped.{Dripped, played}
 use Rattle.dg_drip_run.specs.Causes.{DripEnds}
@@ -25,7 +25,7 @@ use Rattle.dg_command.specs.Asking.{Said, Replay, Serve, Format, Inject, Order a
 use Rattle.dg_command.specs.Asking.{Wrap, Check, Receive, Drip, Base, Asking, Asks, Helps, TellsVersion, Misuses}
 use Rattle.dg_end.specs.Texts.{line}
 use Rattle.dg_cli.specs.Words.{TextDone}
-use Rattle.dg_cli.specs.Parts.{around_of, service_of}
+use Rattle.dg_cli.specs.Parts.{around_of}
 use Rattle.dg_cli.specs.Basing.{BaseDone}
 use Rattle.dg_cli.specs.Chained.{root_in, Checked}
 
@@ -33,23 +33,18 @@ use Rattle.dg_cli.specs.Chained.{root_in, Checked}
 
 -- The network that the input spells was served over the link, by the clock, with the draws of the seed.
 pub record ServeDone (turns seed : ℕ) (status : Status) (a b : Outside) : Type 0 where
-  pub served : NetworkServed status seed turns (around_service a.input.left a.input.reads (service_of a))
-      (around_service b.input.left b.input.reads (service_of b))
+  pub served : NetworkServed status seed turns a b
   -- For whichever table its boards are checked against: what agrees stays so if the frames that came are honest, as they are over
   -- a link that exposes its inboxes. What is consistent stays so with any frames.
-  pub keeps : (profile : NetProfile) → IsAllowed profile
-      → (x : Began status profile seed turns (service_of a) (service_of b)) (table : List Row) (stores : List Store)
-      → (fits : StoresOf profile.motes a.boards stores) → AreShaped stores
-      → KeepsRules a.link.inboxes table stores profile.links profile.motes x.events (x.came table stores fits).last
-  -- the trace of its events is a script of them
-  pub script : (profile : NetProfile) → IsAllowed profile
-      → (x : Began status profile seed turns (service_of a) (service_of b)) (stores : List Store)
-      → StoresOf profile.motes a.boards stores → IsScript (trace profile x.events) (trace_lines profile x.events)
-  -- and its replay over boards that stand for the same stores leads to the same world
-  pub replayed : (profile : NetProfile) → IsAllowed profile
-      → (x : Began status profile seed turns (service_of a) (service_of b)) (table : List Row) (stores : List Store)
-      → (fits : StoresOf profile.motes a.boards stores)
-      → ReplaysTo (trace profile x.events) profile.motes table stores (x.came table stores fits).last.world
+  pub keeps : (profile : NetProfile) → IsAllowed profile → (x : Began status profile seed turns a b) (table : List Row)
+      (stores : List Store) → (fits : StoresOf profile.motes a.boards stores) → AreShaped stores
+      → KeepsRules a.link.inboxes table stores profile.links profile.motes x.ran.events (x.ran.came table stores fits).last
+  -- the trace of its events is a script of them, and its replay over boards that stand for the same stores leads to the same
+  -- world
+  pub replayed : (profile : NetProfile) → IsAllowed profile → (x : Began status profile seed turns a b) (table : List Row)
+      (stores : List Store) → (fits : StoresOf profile.motes a.boards stores)
+      → ReplaysTo (trace profile x.ran.events) (trace_lines profile x.ran.events) profile.motes table stores
+      (x.ran.came table stores fits).last.world
 
 -- ---- the trial
 

@@ -38,7 +38,9 @@ use Rattle.dg_serve.specs.Promised.{event_item, served_item, RunOf, StoresConsis
 use Rattle.dg_serve.specs.Traces.{IsScript, trace, trace_lines}
 use Rattle.dg_serve.specs.Services.{Part, Begins, Looks, Ticks, Moment, Course, course}
 use Rattle.dg_serve.specs.Endings.{StoresOf, FindsNoImage, Remains, remains, EndsInNext, event_of}
-use Rattle.dg_serve.specs.Served.{ServiceOutside, BoardsAfter, WroteTrace, Began}
+use Rattle.dg_outside.specs.Outside.{Outside, OutputState}
+use Rattle.dg_end.specs.Writes.{WritesEnd}
+use Rattle.dg_serve.specs.Served.{BoardsAfter, service_end, Began}
 use Rattle.dg_serve.specs.declared.stop.Stop.{Stop}
 use Rattle.dg_serve.specs.declared.stop.Stop.TheVariants as stop
 use Rattle.dg_serve.proofs.EventLemmas.{same_of}
@@ -167,24 +169,25 @@ next_finds laws motes s left old new k fits n =
     part_finds laws motes s.world n.part n.dt n.word n.bytes old new.boards k (subst (AllByRecursion (PartFits motes)) n.is fits).0 n.ends
 
 -- a service ends so only where its last part did
-pub ends_found : (why : Option Stop) (answer : Status) (profile : NetProfile) (boards : ℕ) (s : Moment) (c : Course) (last : Moment) (first : List Device) (after : ServiceOutside) (text : List ℕ)
-    → WroteTrace why answer profile boards c.events text → BoardsAfter why profile.motes s c last first after → (EndsInNext stop.NoImage last c.left first (remains after.boards after.inboxes after.clock) → ⊥) → answer ≡ status.NoImage → ⊥
-ends_found None answer profile boards s c last first after text wrote ends never is = let e = wrote.0 in absurd cc
-ends_found (Some stop.Memory) answer profile boards s c last first after text wrote ends never is = let e = wrote.0 in absurd cc
-ends_found (Some stop.Write) answer profile boards s c last first after text wrote ends never is = let e = wrote.0 in absurd cc
-ends_found (Some stop.Link) answer profile boards s c last first after text wrote ends never is = let e = wrote.0 in absurd cc
-ends_found (Some stop.Flash) answer profile boards s c last first after text wrote ends never is = let e = wrote.0 in absurd cc
-ends_found (Some stop.NotAVolume) answer profile boards s c last first after text (inl wrote) ends never is = let e = wrote.0 in absurd cc
-ends_found (Some stop.NotAVolume) answer profile boards s c last first after text (inr wrote) ends never is = let e = wrote.0 in absurd cc
-ends_found (Some stop.NoImage) answer profile boards s c last first after text wrote ends never is = never ends.0
+pub ends_found : (why : Option Stop) (answer : Status) (motes : ℕ) (s : Moment) (c : Course) (last : Moment) (first : List Device) (b : Outside) (x y : OutputState)
+    → WritesEnd answer (service_end why) x y → BoardsAfter why motes s c last first b → (EndsInNext stop.NoImage last c.left first (remains b.boards b.link.inboxes b.clock) → ⊥) → answer ≡ status.NoImage → ⊥
+ends_found None answer motes s c last first b x y ended ends never is = let e = ended.0 in absurd cc
+ends_found (Some stop.Memory) answer motes s c last first b x y ended ends never is = let e = ended.0 in absurd cc
+ends_found (Some stop.Write) answer motes s c last first b x y ended ends never is = let e = ended.0 in absurd cc
+ends_found (Some stop.Link) answer motes s c last first b x y ended ends never is = let e = ended.0 in absurd cc
+ends_found (Some stop.Flash) answer motes s c last first b x y ended ends never is = let e = ended.0 in absurd cc
+ends_found (Some stop.NotAVolume) answer motes s c last first b x y (inl ended) ends never is = let e = ended.0 in absurd cc
+ends_found (Some stop.NotAVolume) answer motes s c last first b x y (inr (inl ended)) ends never is = let e = ended.0 in absurd cc
+ends_found (Some stop.NotAVolume) answer motes s c last first b x y (inr (inr ended)) ends never is = let e = ended.0 in absurd cc
+ends_found (Some stop.NoImage) answer motes s c last first b x y ended ends never is = never ends.0
 
-pub finds_golden : GoldenLaws → (answer : Status) (profile : NetProfile) (seed turns : ℕ) (before after : ServiceOutside) (x : Began answer profile seed turns before after) (table : List Row) (stores : List Store) (fits : StoresOf profile.motes before.boards stores)
-    → RunOf profile.motes (first_world table profile.links none_narrow stores) x.events (x.came table stores fits).last.world → StoresKeepGolden stores → answer ≡ status.NoImage → ⊥
-finds_golden laws answer profile seed turns before after x table stores fits run h is =
-    let came = x.came table stores fits in
+pub finds_golden : GoldenLaws → (answer : Status) (profile : NetProfile) (seed turns : ℕ) (a b : Outside) (x : Began answer profile seed turns a b) (table : List Row) (stores : List Store) (fits : StoresOf profile.motes a.boards stores)
+    → RunOf profile.motes (first_world table profile.links none_narrow stores) x.ran.events (x.ran.came table stores fits).last.world → StoresKeepGolden stores → answer ≡ status.NoImage → ⊥
+finds_golden laws answer profile seed turns a b x table stores fits run h is =
+    let came = x.ran.came table stores fits in
     let keeps = keeps_behind laws profile.motes table stores profile.links run.played came.last.world fits.count h run.plays run.ranges in
-    ends_found x.why answer profile (length before.boards) _ (course x.done x.events x.left) came.last before.boards after x.text x.wrote came.ends
-    (λ n. next_finds laws profile.motes came.last x.left before.boards (remains after.boards after.inboxes after.clock) keeps (left_fits profile.motes turns x.done x.left x.parts) n) is
+    ends_found x.why answer profile.motes _ (course x.ran.done x.ran.events x.ran.left) came.last a.boards (record b { output = x.traced }) x.traced b.output x.ended came.ends
+    (λ n. next_finds laws profile.motes came.last x.ran.left a.boards (remains b.boards b.link.inboxes b.clock) keeps (left_fits profile.motes turns x.ran.done x.ran.left x.ran.parts) n) is
 
 -- ---- an uncut event leads to one world
 
@@ -272,12 +275,11 @@ trace_world profile events table stores =
 -- ---- a replay
 
 pub replays_to : (profile : NetProfile) (events : List Event) (table : List Row) (stores : List Store) (v : World) → IsScript (trace profile events) (trace_lines profile events) → RunOf profile.motes (first_world table profile.links none_narrow stores) events v
-    → ReplaysTo (trace profile events) profile.motes table stores v
+    → ReplaysTo (trace profile events) (trace_lines profile events) profile.motes table stores v
 replays_to profile events table stores v script run =
     let begins = trace_world profile events table stores in
     let items = trace_items profile events in
     record {
-      lines = trace_lines profile events;
       script = script;
       rest = map link_line profile.links ++ map EventLine events;
       over_boards = refl;

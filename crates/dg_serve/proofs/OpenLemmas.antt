@@ -2,12 +2,15 @@
 use Rattle.std.proofs.Common.{◌≡◌, ℕ, zero, suc, ◌+◌, List, [], ◌∷◌, ◌++◌, length, take, add-one, refl, ap, sym, ◌∙◌, subst, arith, inr}
 use Rattle.std.specs.Prelude.{slice_index_or, replicate, Option, None, Result, Ok, Err, IsErrAnd}
 use Rattle.std.proofs.lemmas.List.{take_all}
-use Rattle.dg_base.specs.Outside.{Puts}
+use Rattle.dg_base.specs.Outside.{Puts, PutsPrefix}
 use Rattle.dg_netcfg.specs.declared.profile.NetProfile.{NetProfile}
 use Rattle.dg_node.specs.declared.node.Node.{Node}
 use Rattle.dg_serve.specs.Traces.{lines_text, head_lines}
-use Rattle.dg_serve.specs.Served.{ServiceOutside, Hindered}
-use Rattle.dg_serve.specs.Ran.{stop_status, ServiceOpens, LinkTold, OpensLink}
+use Rattle.dg_outside.specs.Outside.{Outside}
+use Rattle.dg_end.specs.Lines.{status_of}
+use Rattle.dg_serve.specs.Endings.{end_of_stop}
+use Rattle.dg_serve.specs.Served.{Hindered}
+use Rattle.dg_serve.specs.Ran.{ServiceOpens, OpensLink}
 use Rattle.dg_serve.specs.declared.service.Service.{Service}
 use Rattle.dg_serve.specs.declared.stop.Stop.{Stop}
 use Rattle.dg_serve.specs.declared.stop.Stop.TheVariants as stop
@@ -39,26 +42,23 @@ none_many xs n same = ap length same ∙ many_in None n
 
 -- ---- where it was not opened
 
-pub opens_err : (r : Result Service Stop) (why : Stop) (profile : NetProfile) (seed : ℕ) (before : ServiceOutside) (addressees reached : ℕ) (after : ServiceOutside) → IsErrAnd r (λ e. e ≡ why) → Hindered (stop_status why) profile before after → after.clock ≡ before.clock → ServiceOpens r profile seed before addressees reached after
-opens_err (Ok v) why profile seed before addressees reached after is hindered clock = absurd is
-opens_err (Err e) why profile seed before addressees reached after is hindered clock = subst (λ (w : Stop). ServiceOpens (Err w) profile seed before addressees reached after) (sym is) (hindered, clock)
+pub opens_err : (r : Result Service Stop) (why : Stop) (profile : NetProfile) (seed : ℕ) (a : Outside) (addressees reached : ℕ) (b : Outside) → IsErrAnd r (λ e. e ≡ why) → Hindered (status_of (end_of_stop why)) profile a b → b.clock ≡ a.clock → ServiceOpens r profile seed a addressees reached b
+opens_err (Ok v) why profile seed a addressees reached b is hindered clock = absurd is
+opens_err (Err e) why profile seed a addressees reached b is hindered clock = subst (λ (w : Stop). ServiceOpens (Err w) profile seed a addressees reached b) (sym is) (hindered, clock)
 
--- what its link exposes afterwards
-abbrev pub link_then : ServiceOutside → ℕ → LinkTold
-link_then o addressees = record { inboxes = o.inboxes; failures = o.failures; addressees = addressees; port = o.port }
-
-pub open_hindered : (why : Stop) (profile : NetProfile) (before after : ServiceOutside) (n k : ℕ) → OpensLink (Err why) profile (link_then before n) (link_then after k) → Puts before.written after.written (lines_text (head_lines profile)) → after.faults ≡ before.faults → Hindered (stop_status why) profile before after
-open_hindered stop.Memory profile before after n k opens put faults =
-    ((length (lines_text (head_lines profile)), subst (λ l. Puts before.written after.written l) (sym (take_all (length (lines_text (head_lines profile))) (lines_text (head_lines profile)) (omega arith))) put), faults, opens.1, inr (opens.0.0, opens.0.1))
-open_hindered stop.Link profile before after n k opens put faults = (put, faults, opens.1, (opens.0.0, opens.0.1), opens.2)
-open_hindered stop.Write profile before after n k opens put faults = absurd opens
-open_hindered stop.Flash profile before after n k opens put faults = absurd opens
-open_hindered stop.NotAVolume profile before after n k opens put faults = absurd opens
-open_hindered stop.NoImage profile before after n k opens put faults = absurd opens
+pub open_hindered : (why : Stop) (profile : NetProfile) (a b : Outside) (addressees : ℕ) → OpensLink (Err why) profile addressees a.link b.link → Puts a.output.written b.output.written (lines_text (head_lines profile)) → b.output.writes ≡ a.output.writes → Hindered (status_of (end_of_stop why)) profile a b
+open_hindered stop.Memory profile a b addressees opens put writes =
+    let lines = lines_text (head_lines profile) in
+    ((length lines, omega arith, subst (λ l. Puts a.output.written b.output.written l) (sym (take_all (length lines) lines (omega arith))) put), writes, inr (opens.0, opens.1))
+open_hindered stop.Link profile a b addressees opens put writes = (put, writes, opens.0, opens.1)
+open_hindered stop.Write profile a b addressees opens put writes = absurd opens
+open_hindered stop.Flash profile a b addressees opens put writes = absurd opens
+open_hindered stop.NotAVolume profile a b addressees opens put writes = absurd opens
+open_hindered stop.NoImage profile a b addressees opens put writes = absurd opens
 
 -- nothing was written
-pub nothing_put : (o : Option (List ℕ)) (xs : List ℕ) → (n : ℕ) × Puts o o (take n xs)
-nothing_put o xs = (0, puts_none o o refl)
+pub nothing_put : (o : Option (List ℕ)) (xs : List ℕ) → PutsPrefix o o xs
+nothing_put o xs = (0, omega arith, puts_none o o refl)
 
 -- the head of the trace is what is written
 pub head_is : (x t old head : List ℕ) → x ≡ t → t ≡ old ++ head → old ≡ [] → x ≡ head

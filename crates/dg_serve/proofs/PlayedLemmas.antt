@@ -44,3 +44,8 @@ may_run device now i mote motes boards v a many enough ran stood same may =
     let there : slice_get (map device boards) mote ≡ Some (device a) = subst (λ m. slice_get (map device boards) m ≡ Some (device a)) same was in
     let here : slice_index_or motes mote None ≡ v = subst (λ m. slice_index_or motes m None ≡ v) same (sym (get_or_read motes i v many ran None)) in
     subst (λ o. MayRun (device a).image now o) here (may (device a) there)
+
+-- what ran at the mote is put back there
+pub put_at : (i mote : ℕ) (motes : List (Option Node)) (u : Option Node) → i < length motes → i ≡ mote → set motes i u ≡ set motes mote (slice_index_or (set motes i u) mote None)
+put_at i mote motes u many same =
+    subst (λ m. set motes i u ≡ set motes m (slice_index_or (set motes i u) m None)) same (ap (λ x. set motes i x) (sym (get_or-set_same motes i u None many)))

@@ -1,5 +1,5 @@
 -- Where a service begins.
-use Rattle.std.proofs.Common.{◌≡◌, ◌⊎◌, ℕ, zero, suc, ◌<◌, ◌≤◌, List, [], ◌∷◌, length, map, refl, ap, sym, ◌∙◌, subst, inl, arith}
+use Rattle.std.proofs.Common.{◌≡◌, ◌⊎◌, ℕ, zero, suc, ◌^◌, ◌<◌, ◌≤◌, List, [], ◌∷◌, length, map, refl, ap, sym, ◌∙◌, subst, inl, arith}
 use Rattle.std.specs.Prelude.{slice_get, slice_index_or, Option, Some, IfSome}
 use Rattle.std.proofs.lemmas.List.{length-map}
 use Rattle.rand_pcg.specs.Lcg.{Lcg}
@@ -13,10 +13,11 @@ use Rattle.dg_mote.specs.Timely.{Timely}
 use Rattle.dg_script.specs.Places.{none_narrow}
 use Rattle.dg_rules.specs.World.{Site, first_world, off_site, no_site}
 use Rattle.dg_seed.specs.Draws.{generator_of}
-use Rattle.dg_serve.specs.Services.{Part, Moment}
+use Rattle.dg_serve.specs.Services.{Part, Begins, Moment, beginning}
 use Rattle.dg_serve.specs.Endings.{StoresOf}
-use Rattle.dg_serve.specs.Standings.{Standing, StandsFor, StandsForSome, StandsReady, ServedParts}
+use Rattle.dg_serve.specs.Standings.{Standing, StandsFor, StandsForSome, StandsReady, IsUnderWay, ServedParts}
 use Rattle.dg_serve.proofs.EventLemmas.{same_of}
+use Rattle.dg_serve.proofs.LoopLemmas.{loop_moved}
 
 -- all sites of a world at its beginning are off
 site_off : (stores : List Store) (m : ℕ) → slice_index_or (map off_site stores) m no_site ≡ off_site (slice_index_or stores m no_site.store)
@@ -79,3 +80,9 @@ some_begun motes links parts p q ready moment went =
     let st = stands_first motes links [] x.0 p.service.timeline.reading p.clock (generator_of p.service.timeline.draws) p.inboxes p x.1 moment refl refl refl refl in
     let y = went.run p.boards (first_moment [] links x.0 p.service.timeline.reading p.clock (generator_of p.service.timeline.draws) p.inboxes) st in
     (p.boards, y.0, y.2)
+
+-- and the service is under way
+pub begun_under_way : (motes : ℕ) (links : List (ℕ × ℕ)) (p q : Standing) → motes ≤ 16 → StandsReady motes 0 p → p.service.timeline.moment ≡ 0 → ServedParts motes 0 motes links (beginning motes) p q → IsUnderWay motes links (2 ^ 40) q
+begun_under_way motes links p q most ready moment went =
+    let moved = loop_moved motes 0 motes links motes 1 (λ mote. Begins mote ∷ []) p q (λ k. omega arith) went in
+    record { ready = went.ready; early = omega (arith, moved, most, moment); some = some_begun motes links (beginning motes) p q ready moment went }

@@ -11,6 +11,8 @@ use Rattle.dg_object.specs.Object.{Row}
 use Rattle.dg_volume.specs.Store.{Store, IsNear}
 use Rattle.dg_volume.specs.Stands.{Stands, IsVolume, IsNoVolume}
 use Rattle.dg_script.specs.Places.{none_narrow}
+use Rattle.dg_end.specs.declared.ends.End.{End}
+use Rattle.dg_end.specs.declared.ends.End.TheVariants as ends
 use Rattle.dg_rules.specs.World.{World, Sent, first_world, store_at, no_site}
 use Rattle.dg_rules.specs.Events.{does, mote_of, trail_of}
 use Rattle.dg_rules.specs.Steps.{EndsRun}
@@ -167,6 +169,15 @@ pub record PartlyHanded (motes : ℕ) (s : Moment) (done : List Part) (events : 
   pub found : Option Inboxes
   pub by : FoundBy motes s done events last found
   pub first : HandedToFirst motes by.before.world last.world found after
+
+-- how a service that stopped ends
+abbrev pub end_of_stop : Stop → End
+end_of_stop Memory = ends.Memory
+end_of_stop Write = ends.WriteFault
+end_of_stop Link = ends.LinkFault
+end_of_stop Flash = ends.FlashFault
+end_of_stop NotAVolume = ends.NotAVolume
+end_of_stop NoImage = ends.NoImage
 
 -- What a stop leaves after these parts were done from this moment on, and gave these events. Where a line could not be
 -- written, nothing of its event was forwarded. Where no image or no volume was found, no frame was taken.

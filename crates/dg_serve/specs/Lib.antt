@@ -6,5 +6,4 @@ pub mod Served
 pub mod Standings
 pub mod Ran
 pub mod Networks
-pub mod Spelled
 pub mod Promised

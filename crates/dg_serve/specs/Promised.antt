@@ -128,10 +128,10 @@ abbrev pub world_by : List Line → List Row → List Store → World
 world_by lines table stores =
     first_world table (place_behind first_place lines).links (place_behind first_place lines).narrow stores
 
--- The bytes are a script over this many boards as they are. Where these stand for these stores, a run of the rules over its
--- items leads to this world, and no run over them leads to another.
-pub record ReplaysTo (bytes : List ℕ) (motes : ℕ) (table : List Row) (stores : List Store) (v : World) : Type 0 where
-  pub lines : List Line
+-- The bytes are a script of these lines, over this many boards as they are. Where these stand for these stores, a run of the
+-- rules over its items leads to this world, and no run over them leads to another.
+pub record ReplaysTo (bytes : List ℕ) (lines : List Line) (motes : ℕ) (table : List Row) (stores : List Store) (v : World)
+    : Type 0 where
   pub script : IsScript bytes lines
   pub rest : List Line
   pub over_boards : lines ≡ Motes motes ∷ Boards ∷ rest

@@ -1,14 +1,14 @@
 -- What a service did: the events that were applied, what it wrote, and how it left the boards, the link and the clock
 -- (docs/COMMANDS.md, "Serve").
-use Rattle.std.specs.Prelude.{◌≡◌, ◌≢◌, ◌⊎◌, ℕ, ◌≤◌, List, [], ◌++◌, length, take, slice_get, Option, Some, None, option_map}
+use Rattle.std.specs.Prelude.{◌≡◌, ◌≢◌, ◌⊎◌, ℕ, ◌≤◌, List, [], ◌++◌, slice_get, Option, Some, None, option_map, Result, Ok, Err}
 use Rattle.std.specs.List.{AllByRecursion}
 use Rattle.dg_words.specs.Counts.{Rose}
 use Rattle.dg_base.specs.Clock.{Answers, Answered}
-use Rattle.dg_base.specs.Outside.{Puts}
+use Rattle.dg_base.specs.Outside.{Puts, PutsPrefix}
 use Rattle.dg_base.specs.declared.answers.Status.{Status}
 use Rattle.dg_base.specs.declared.answers.Status.TheVariants as status
 use Rattle.dg_base.specs.declared.events.Event.{Event}
-use Rattle.dg_link.specs.Inboxes.{Inboxes, emptied}
+use Rattle.dg_link.specs.Inboxes.{emptied}
 use Rattle.dg_netcfg.specs.declared.profile.NetProfile.{NetProfile}
 use Rattle.dg_nor.specs.Device.{Device}
 use Rattle.dg_object.specs.Object.{Row}
@@ -16,99 +16,69 @@ use Rattle.dg_volume.specs.Store.{Store}
 use Rattle.dg_volume.specs.Stands.{IsVolume}
 use Rattle.dg_rules.specs.Events.{mote_of}
 use Rattle.dg_world.specs.Boards.{BoardsEndure}
+use Rattle.dg_world.specs.Counts.{NoneRose}
+use Rattle.dg_outside.specs.Outside.{Outside, OutputState, LinkState}
+use Rattle.dg_end.specs.Writes.{WritesEnd}
+use Rattle.dg_end.specs.declared.ends.End.{End}
 use Rattle.dg_serve.specs.Services.{Part, Moment, PartsDone, Course, course, plan}
-use Rattle.dg_serve.specs.Endings.{StoresOf, begins, ServedBoardsStand, remains, StopLeaves}
-use Rattle.dg_serve.specs.Traces.{UnwrittenLast, trace, lines_text, head_lines, trace_last_line}
+use Rattle.dg_serve.specs.Endings.{StoresOf, begins, ServedBoardsStand, remains, end_of_stop, StopLeaves}
+use Rattle.dg_serve.specs.Traces.{UnwrittenLast, trace, lines_text, head_lines}
 use Rattle.dg_serve.specs.declared.stop.Stop.{Stop}
 use Rattle.dg_serve.specs.declared.stop.Stop.TheVariants as stop
 
--- What is outside of a service, before it or after it. These are the bytes that were written and the count of the sink, the
--- answers of the clock, the inboxes, the count and the port of the link, and the boards.
-pub record ServiceOutside : Type 0 where
-  pub written : Option (List ℕ)
-  pub faults : ℕ
-  pub clock : Option Answers
-  pub inboxes : Option Inboxes
-  pub failures : ℕ
-  pub port : Option ℕ
-  pub boards : List Device
+-- ---- the link
 
-abbrev pub service_outside : (written : Option (List ℕ)) (faults : ℕ) (clock : Option Answers) (inboxes : Option Inboxes)
-    (failures : ℕ)
-    (port : Option ℕ) (boards : List Device) → ServiceOutside
-service_outside written faults clock inboxes failures port boards = record {
-  written = written;
-  faults = faults;
-  clock = clock;
-  inboxes = inboxes;
-  failures = failures;
-  port = port;
-  boards = boards;
-}
+-- it is to be opened at the profile's port: it has that port, if it exposes its port
+abbrev pub AtPort : NetProfile → (a b : LinkState) → Type 0
+AtPort profile a b = b.port ≡ option_map (λ port. profile.port) a.port
 
--- the link is to be opened at the profile's port: it has that port, if it exposes its port
-abbrev pub AtPort : NetProfile → (before after : ServiceOutside) → Type 0
-AtPort profile before after = after.port ≡ option_map (λ port. profile.port) before.port
+-- it was to be opened: it has this many motes, whose inboxes are empty
+abbrev pub LinkHas : (motes : ℕ) → NetProfile → (a b : LinkState) → Type 0
+LinkHas motes profile a b = (b.inboxes ≡ option_map (emptied motes) a.inboxes) × AtPort profile a b
+
+-- ---- how far it came
 
 -- how the boards, the link and the clock are left, by why the service ended before its turns were over, if it did
-abbrev pub BoardsAfter : Option Stop → (motes : ℕ) → Moment → Course → (last : Moment) → List Device → ServiceOutside → Type 0
-BoardsAfter None motes s c last first after =
-    ServedBoardsStand last.world first after.boards × (after.inboxes ≡ last.inboxes) × (after.clock ≡ last.clock)
-BoardsAfter (Some why) motes s c last first after =
-    StopLeaves why motes s c last first (remains after.boards after.inboxes after.clock)
+abbrev pub BoardsAfter : Option Stop → (motes : ℕ) → Moment → Course → (last : Moment) → List Device → Outside → Type 0
+BoardsAfter None motes s c last first b =
+    ServedBoardsStand last.world first b.boards × (b.link.inboxes ≡ last.inboxes) × (b.clock ≡ last.clock)
+BoardsAfter (Some why) motes s c last first b =
+    StopLeaves why motes s c last first (remains b.boards b.link.inboxes b.clock)
 
 -- From this moment on the service came as far as this.
-pub record Came (why : Option Stop) (motes : ℕ) (s : Moment) (c : Course) (first : List Device) (after : ServiceOutside)
-    : Type 0 where
+pub record Came (why : Option Stop) (motes : ℕ) (s : Moment) (c : Course) (first : List Device) (b : Outside) : Type 0 where
   pub last : Moment
   pub serves : PartsDone motes s c.done c.events last
-  pub ends : BoardsAfter why motes s c last first after
-
--- The bytes are the trace and the last line of the status. They are the trace and a prefix of the line only if the line could
--- not be written.
-abbrev pub WroteLast : Status → Status → (whole line text : List ℕ) → Type 0
-WroteLast answer of whole line text =
-    ((answer ≡ of) × (text ≡ whole ++ line)) ⊎ ((answer ≡ status.WriteFault) × ((n : ℕ) × (text ≡ whole ++ take n line)))
+  pub ends : BoardsAfter why motes s c last first b
 
 -- What was written of the trace of these events. Where a line of it could not be written, it is that of the last event.
-abbrev pub WroteTrace : Option Stop → Status → NetProfile → (boards : ℕ) → List Event → (text : List ℕ) → Type 0
-WroteTrace None answer profile boards events text = (answer ≡ status.Done) × (text ≡ trace profile events)
-WroteTrace (Some stop.Memory) answer profile boards events text = (answer ≡ status.Memory) × (text ≡ trace profile events)
-WroteTrace (Some stop.Write) answer profile boards events text =
-    (answer ≡ status.WriteFault) × UnwrittenLast (lines_text (head_lines profile)) events text
-WroteTrace (Some stop.Link) answer profile boards events text = (answer ≡ status.LinkFault) × (text ≡ trace profile events)
-WroteTrace (Some stop.Flash) answer profile boards events text = (answer ≡ status.FlashFault) × (text ≡ trace profile events)
-WroteTrace (Some stop.NotAVolume) answer profile boards events text =
-    WroteLast answer status.NotAVolume (trace profile events) (trace_last_line status.NotAVolume profile.motes boards) text
-WroteTrace (Some stop.NoImage) answer profile boards events text =
-    WroteLast answer status.NoImage (trace profile events) (trace_last_line status.NoImage profile.motes boards) text
+abbrev pub WroteTrace : Option Stop → NetProfile → List Event → (a b : OutputState) → Type 0
+WroteTrace (Some stop.Write) profile events a b =
+    (text : List ℕ) × Puts a.written b.written text × UnwrittenLast (lines_text (head_lines profile)) events text
+WroteTrace why profile events a b = Puts a.written b.written (trace profile events)
 
 -- No board but those of the motes was used, and all endure.
 pub record MotesEndure (motes : ℕ) (old new : List Device) : Type 0 where
   pub all : BoardsEndure old new
   pub others : (m : ℕ) → motes ≤ m → slice_get new m ≡ slice_get old m
 
--- A fault of the outside is reported, and only with its own answer.
-pub record Causes (answer : Status) (before after : ServiceOutside) : Type 0 where
-  pub write_fault : answer ≡ status.WriteFault → Rose before.faults after.faults
-  pub writes : answer ≢ status.WriteFault → after.faults ≡ before.faults
-  pub link_fault : answer ≡ status.LinkFault → Rose before.failures after.failures
-  pub sends : answer ≢ status.LinkFault → after.failures ≡ before.failures
-  pub calm : answer ≢ status.FlashFault → (m : ℕ) (a b : Device) → slice_get before.boards m ≡ Some a
-      → slice_get after.boards m ≡ Some b → b.faults ≡ a.faults
-  pub writes_rise : before.faults ≤ after.faults
-  pub sends_rise : before.failures ≤ after.failures
+-- A count of faults rises only for the fault that the service ended by.
+pub record CountedBy (why : Option Stop) (a b : Outside) : Type 0 where
+  pub wrote : why ≡ Some stop.Write → Rose a.output.writes b.output.writes
+  pub writes : why ≢ Some stop.Write → b.output.writes ≡ a.output.writes
+  pub sent : why ≡ Some stop.Link → Rose a.link.failures b.link.failures
+  pub sends : why ≢ Some stop.Link → b.link.failures ≡ a.link.failures
+  pub calm : why ≢ Some stop.Flash → NoneRose a.boards b.boards
 
 -- the board of an event is a volume
 abbrev pub IsAtVolume : List Device → Event → Type 0
 IsAtVolume boards event = (board : Device) → slice_get boards (mote_of event) ≡ Some board → IsVolume board.image
 
--- The service began: its link was opened, and its clock read.
-pub record Began (answer : Status) (profile : NetProfile) (seed turns : ℕ) (before after : ServiceOutside) : Type 0 where
+-- The service began: its link was opened, and its clock read. It came as far as this before its last line.
+pub record ServiceRan (why : Option Stop) (profile : NetProfile) (seed turns : ℕ) (a b : Outside) : Type 0 where
   pub origin : ℕ
   pub clock : Option Answers
-  pub first : Answered before.clock clock origin
-  pub why : Option Stop
+  pub first : Answered a.clock clock origin
   -- the events that were applied, the parts that gave them, and those that are left
   pub events : List Event
   pub done : List Part
@@ -116,62 +86,50 @@ pub record Began (answer : Status) (profile : NetProfile) (seed turns : ℕ) (be
   pub parts : done ++ left ≡ plan profile.motes turns
   pub all : why ≡ None → left ≡ []
   -- whatever the boards stand for, and whatever the table of images is: the rules of a service do not look at it
-  pub came : (table : List Row) (stores : List Store) → StoresOf profile.motes before.boards stores
+  pub came : (table : List Row) (stores : List Store) → StoresOf profile.motes a.boards stores
       → Came why profile.motes (begins table profile.links stores origin clock seed
-      (option_map (emptied profile.motes) before.inboxes))
-      (course done events left) before.boards after
+      (option_map (emptied profile.motes) a.link.inboxes))
+      (course done events left) a.boards b
   -- none of the events was at a board that is not a volume
-  pub volumes : AllByRecursion (IsAtVolume before.boards) events
-  pub text : List ℕ
-  pub put : Puts before.written after.written text
-  pub wrote : WroteTrace why answer profile (length before.boards) events text
-  pub boards : MotesEndure profile.motes before.boards after.boards
-  pub port : AtPort profile before after
-  pub causes : Causes answer before after
+  pub volumes : AllByRecursion (IsAtVolume a.boards) events
+  pub wrote : WroteTrace why profile events a.output b.output
+  pub boards : MotesEndure profile.motes a.boards b.boards
+  pub port : AtPort profile a.link b.link
+  pub counts : CountedBy why a b
 
--- the link as it was before, or without motes
-abbrev pub LinkClosed : NetProfile → (before after : ServiceOutside) → Type 0
-LinkClosed profile before after =
-    (after.inboxes ≡ option_map (emptied 0) before.inboxes) × AtPort profile before after
+-- ---- how it ended
 
-abbrev pub SameBoxes : (before after : ServiceOutside) → Type 0
-SameBoxes before after = (after.inboxes ≡ before.inboxes) × (after.port ≡ before.port)
+-- all turns were played, or it stopped
+abbrev pub service_end : Option Stop → Result (Unit {0}) End
+service_end None = Ok tt
+service_end (Some why) = Err (end_of_stop why)
+
+-- The service began, and ended so: its last line, if there is one, was written after its trace.
+pub record Began (answer : Status) (profile : NetProfile) (seed turns : ℕ) (a b : Outside) : Type 0 where
+  pub why : Option Stop
+  pub traced : OutputState
+  pub ran : ServiceRan why profile seed turns a (record b { output = traced })
+  pub ended : WritesEnd answer (service_end why) traced b.output
 
 -- Why a service did not begin, where the head of its trace could not be written, or the link could not be opened. Memory may run
 -- out before the link is to be opened, or then.
-abbrev pub Hindered : Status → NetProfile → (before after : ServiceOutside) → Type 0
-Hindered status.Memory profile before after =
-    ((n : ℕ) × Puts before.written after.written (take n (lines_text (head_lines profile)))) × (after.faults ≡ before.faults)
-    × (after.failures ≡ before.failures) × (SameBoxes before after ⊎ LinkClosed profile before after)
-Hindered status.WriteFault profile before after =
-    ((n : ℕ) × Puts before.written after.written (take n (lines_text (head_lines profile)))) × Rose before.faults after.faults
-    × (after.failures ≡ before.failures)
-    × SameBoxes before after × (before.faults ≤ after.faults)
-Hindered status.LinkFault profile before after = Puts before.written after.written (lines_text (head_lines profile))
-    × (after.faults ≡ before.faults) × Rose before.failures after.failures
-    × LinkClosed profile before after × (before.failures ≤ after.failures)
-Hindered answer profile before after = ⊥
+abbrev pub Hindered : Status → NetProfile → (a b : Outside) → Type 0
+Hindered status.Memory profile a b =
+    PutsPrefix a.output.written b.output.written (lines_text (head_lines profile)) × (b.output.writes ≡ a.output.writes)
+    × ((b.link ≡ a.link) ⊎ (LinkHas 0 profile a.link b.link × (b.link.failures ≡ a.link.failures)))
+Hindered status.WriteFault profile a b =
+    PutsPrefix a.output.written b.output.written (lines_text (head_lines profile)) × Rose a.output.writes b.output.writes
+    × (b.link ≡ a.link)
+Hindered status.LinkFault profile a b =
+    Puts a.output.written b.output.written (lines_text (head_lines profile)) × (b.output.writes ≡ a.output.writes)
+    × LinkHas 0 profile a.link b.link × Rose a.link.failures b.link.failures
+Hindered answer profile a b = ⊥
 
 -- The service did not begin. No board was used, and the clock was not read.
-pub record DidNotBegin (answer : Status) (profile : NetProfile) (before after : ServiceOutside) : Type 0 where
-  pub hindered : Hindered answer profile before after
-  pub boards : after.boards ≡ before.boards
-  pub clock : after.clock ≡ before.clock
+pub record DidNotBegin (answer : Status) (profile : NetProfile) (a b : Outside) : Type 0 where
+  pub hindered : Hindered answer profile a b
+  pub boards : b.boards ≡ a.boards
+  pub clock : b.clock ≡ a.clock
 
-abbrev pub Served : Status → NetProfile → (seed turns : ℕ) → (before after : ServiceOutside) → Type 0
-Served answer profile seed turns before after =
-    DidNotBegin answer profile before after ⊎ Began answer profile seed turns before after
-
--- There are too few boards: nothing is done, and one line is written.
-pub record TooFewBoards (answer : Status) (profile : NetProfile) (before after : ServiceOutside) : Type 0 where
-  pub boards : after.boards ≡ before.boards
-  pub clock : after.clock ≡ before.clock
-  pub link : after.inboxes ≡ before.inboxes
-  pub port : after.port ≡ before.port
-  pub failures : after.failures ≡ before.failures
-  pub written : ((answer ≡ status.NoBoard) × Puts before.written after.written
-      (trace_last_line status.NoBoard profile.motes (length before.boards)) × (after.faults ≡ before.faults))
-      ⊎ (((n : ℕ) × (answer ≡ status.WriteFault) × Puts before.written after.written
-      (take n (trace_last_line status.NoBoard profile.motes (length before.boards))) × Rose before.faults after.faults
-      × (before.faults ≤ after.faults))
-      ⊎ ((answer ≡ status.Memory) × (after.written ≡ before.written) × (after.faults ≡ before.faults)))
+abbrev pub Served : Status → NetProfile → (seed turns : ℕ) → (a b : Outside) → Type 0
+Served answer profile seed turns a b = DidNotBegin answer profile a b ⊎ Began answer profile seed turns a b

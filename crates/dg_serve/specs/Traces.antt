@@ -1,10 +1,7 @@
 -- The trace of a service: a script that records what happened (docs/COMMANDS.md, "Serve").
-use Rattle.std.specs.Prelude.{◌≡◌, ℕ, true, List, [], ◌∷◌, ◌++◌, map, take, codes, None}
+use Rattle.std.specs.Prelude.{◌≡◌, ℕ, true, List, [], ◌∷◌, ◌++◌, map, take, None}
 use Rattle.std.specs.List.{flat_map}
-use Rattle.std.specs.Fmt.{decimal}
 use Rattle.std.specs.Str.Lines.{lines}
-use Rattle.dg_base.specs.declared.answers.Status.{Status}
-use Rattle.dg_base.specs.declared.answers.Status.TheVariants.{NotAVolume, NoImage, NoBoard}
 use Rattle.dg_base.specs.declared.events.Event.{Event}
 use Rattle.dg_script.specs.Places.{first_place}
 use Rattle.dg_script.specs.Script.{script_from}
@@ -35,13 +32,6 @@ pub record UnwrittenLast (head : List ℕ) (events : List Event) (text : List �
   pub events_are : events ≡ written ++ event ∷ []
   pub n : ℕ
   pub text_is : text ≡ head ++ event_lines written ++ take n (event_lines (event ∷ []))
-
--- the last line of a status
-abbrev pub trace_last_line : Status → (motes boards : ℕ) → List ℕ
-trace_last_line NoBoard motes boards = codes "noboard " ++ decimal motes ++ 32 ∷ decimal boards ++ 10 ∷ []
-trace_last_line NotAVolume motes boards = codes "notavolume" ++ 10 ∷ []
-trace_last_line NoImage motes boards = codes "noimage" ++ 10 ∷ []
-trace_last_line status motes boards = []
 
 -- the line of an event
 abbrev pub IsEventLine : Line → Type 0

@@ -7,7 +7,8 @@ ghost use Rattle.dg_object.specs.Object.{Row};
 ghost use Rattle.dg_volume.specs.Store.{Store};
 ghost use Rattle.dg_rules.specs.Begins.{AreShaped};
 ghost use Rattle.dg_serve.specs.Endings.{StoresOf};
-ghost use Rattle.dg_serve.specs.Served.{ServiceOutside, Began};
+ghost use Rattle.dg_outside.specs.Outside.{Outside};
+ghost use Rattle.dg_serve.specs.Served.{Began};
 ghost use Rattle.dg_serve.specs.Promised.{KeepsRules, StoresKeepGolden, ReplaysTo};
 ghost use Rattle.dg_serve.specs.Traces.{IsScript, trace, trace_lines};
 
@@ -23,23 +24,24 @@ use dg_rules::{agreement_is_kept, consistency_is_kept, golden_is_found, scripts_
 /// of its events is a script of them. A replay of that script over boards that stand for what those of the service stood for
 /// leads to the world that the service reached, so that it leaves the same stores.
 pub fn services_keep_the_rules()
-    ensures kept { (answer : Status) (profile : NetProfile) (seed turns : ℕ) (before after : ServiceOutside) → IsAllowed profile
-        → (x : Began answer profile seed turns before after)
-        → (table : List Row) (stores : List Store) → (fits : StoresOf profile.motes before.boards stores) → AreShaped stores
-        → KeepsRules before.inboxes table stores profile.links profile.motes x.events (x.came table stores fits).last }
-    ensures script { (answer : Status) (profile : NetProfile) (seed turns : ℕ) (before after : ServiceOutside) → IsAllowed profile
-        → (x : Began answer profile seed turns before after)
-        → (stores : List Store) → StoresOf profile.motes before.boards stores
-        → IsScript (trace profile x.events) (trace_lines profile x.events) }
-    ensures golden { (answer : Status) (profile : NetProfile) (seed turns : ℕ) (before after : ServiceOutside) → IsAllowed profile
-        → (x : Began answer profile seed turns before after)
-        → (stores : List Store) → StoresOf profile.motes before.boards stores → StoresKeepGolden stores
+    ensures kept { (answer : Status) (profile : NetProfile) (seed turns : ℕ) (a b : Outside) → IsAllowed profile
+        → (x : Began answer profile seed turns a b)
+        → (table : List Row) (stores : List Store) → (fits : StoresOf profile.motes a.boards stores) → AreShaped stores
+        → KeepsRules a.link.inboxes table stores profile.links profile.motes x.ran.events (x.ran.came table stores fits).last }
+    ensures script { (answer : Status) (profile : NetProfile) (seed turns : ℕ) (a b : Outside) → IsAllowed profile
+        → (x : Began answer profile seed turns a b)
+        → (stores : List Store) → StoresOf profile.motes a.boards stores
+        → IsScript (trace profile x.ran.events) (trace_lines profile x.ran.events) }
+    ensures golden { (answer : Status) (profile : NetProfile) (seed turns : ℕ) (a b : Outside) → IsAllowed profile
+        → (x : Began answer profile seed turns a b)
+        → (stores : List Store) → StoresOf profile.motes a.boards stores → StoresKeepGolden stores
         → answer ≢ Status.NoImage }
-    ensures replayed { (answer : Status) (profile : NetProfile) (seed turns : ℕ) (before after : ServiceOutside)
+    ensures replayed { (answer : Status) (profile : NetProfile) (seed turns : ℕ) (a b : Outside)
         → IsAllowed profile
-        → (x : Began answer profile seed turns before after)
-        → (table : List Row) (stores : List Store) → (fits : StoresOf profile.motes before.boards stores)
-        → ReplaysTo (trace profile x.events) profile.motes table stores (x.came table stores fits).last.world }
+        → (x : Began answer profile seed turns a b)
+        → (table : List Row) (stores : List Store) → (fits : StoresOf profile.motes a.boards stores)
+        → ReplaysTo (trace profile x.ran.events) (trace_lines profile x.ran.events) profile.motes table stores
+        (x.ran.came table stores fits).last.world }
 {
     agreement_is_kept();
     consistency_is_kept();

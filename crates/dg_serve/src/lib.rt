@@ -4,7 +4,6 @@
 mod handing;
 mod laws;
 mod network;
-mod playing;
 mod service;
 mod serving;
 mod stop;
@@ -13,10 +12,9 @@ mod timeline;
 
 pub use handing::{hand_on, receive};
 pub use laws::services_keep_the_rules;
-pub use network::{NoProfile, read_network, serve_network, tell_none};
-pub use playing::stop_of;
+pub use network::{read_network, serve_network};
 pub use service::Service;
-pub use serving::{open_service, serve, tell_stop};
+pub use serving::{open_service, serve};
 pub use stop::Stop;
 pub use telling::{line_event, put, write_event};
 pub use timeline::{Timeline, Timing};

@@ -2,13 +2,11 @@
 ghost use Rattle.std.specs.Prelude.{◌≡◌, ℕ, ◌+◌, ◌^◌, ◌<◌, ◌≤◌, [], ◌∷◌, map, Option};
 ghost use Rattle.dg_base.specs.Clock.{Answers};
 ghost use Rattle.dg_netcfg.specs.Readings.{IsAllowed};
-ghost use Rattle.dg_serve.specs.Each.{each};
 ghost use Rattle.dg_serve.specs.Services.{Begins, Looks, Ticks, beginning, turn_of_all, plan};
 ghost use Rattle.dg_serve.specs.Standings.{StandsReady, IsUnderWay, PartsGoOn, EventAsks, ApplyEnds, stretch, standing_with};
 ghost use Rattle.dg_serve.specs.Standings.{service_standing};
 
 use crate::handing::{hand_on, receive};
-use crate::playing::play;
 use crate::stop::Stop;
 use crate::telling::{line_event, put, write_event};
 use crate::timeline::Timeline;
@@ -19,6 +17,7 @@ use dg_node::Node;
 use dg_nor::Nor;
 use dg_rules::agreement_is_kept;
 use dg_script::Line;
+use dg_world::play_alone;
 use std::alloc::Global;
 
 /// The motes of a service, None where one is off, their time, and the text that is written next.
@@ -55,7 +54,11 @@ impl Service {
         write_event(&line, &mut self.text)?;
         let borrowed = line_event(&line);
         let now = self.timeline.moment;
-        let sent = play(self.motes.as_mut_slice(), boards, mote, now, borrowed)?;
+        let index = usize::from(mote);
+        let motes = self.motes.as_mut_slice();
+        let runs = &mut motes[index];
+        let board = &mut boards[index];
+        let sent = play_alone(runs, now, borrowed, board)?;
         put(self.text.as_slice(), out)?;
         hand_on(profile, mote, &sent, link)?;
         Ok(())
@@ -151,30 +154,6 @@ impl Service {
         self.apply_event(profile, mote, event, boards, link, out)
     }
 
-    /// The part of a mote in a turn: it looks, and it ticks.
-    fn take_part<K: Sink, N: Nor, L: Link, C: Clock>(
-        &mut self,
-        profile: &NetProfile,
-        mote: u8,
-        boards: &mut [N],
-        link: &mut L,
-        clock: &mut C,
-        out: &mut K,
-    ) -> Result<(), Stop>
-        requires allowed { IsAllowed profile.now }
-        requires known { mote < profile.now.motes }
-        requires under_way { IsUnderWay profile.now.motes profile.now.links (2 ^ 59)
-            (service_standing (self.old, map N.device boards.old) (K.Sink, out.old) (L.Link, link.old) (C.Clock, clock.old)) }
-        ensures goes { PartsGoOn result profile.now.motes profile.now.links
-            (stretch profile.now.motes profile.now.motes (Looks mote ∷ Ticks mote ∷ []))
-            (service_standing (self.old, map N.device boards.old) (K.Sink, out.old) (L.Link, link.old) (C.Clock, clock.old))
-            (service_standing (self.new, map N.device boards.new) (K.Sink, out.new) (L.Link, link.new) (C.Clock, clock.new)) }
-    {
-        self.look(profile, mote, boards, link, clock, out)?;
-        self.tick(profile, mote, boards, link, clock, out)?;
-        Ok(())
-    }
-
     /// Each mote powers on, in ascending order.
     fn begin_all<K: Sink, N: Nor, L: Link, C: Clock>(
         &mut self,
@@ -217,7 +196,8 @@ impl Service {
             (service_standing (self.new, map N.device boards.new) (K.Sink, out.new) (L.Link, link.new) (C.Clock, clock.new)) }
     {
         for mote in 0..profile.motes {
-            self.take_part(profile, mote, boards, link, clock, out)?;
+            self.look(profile, mote, boards, link, clock, out)?;
+            self.tick(profile, mote, boards, link, clock, out)?;
         }
         Ok(())
     }
@@ -243,29 +223,6 @@ impl Service {
             (service_standing (self.new, map N.device boards.new) (K.Sink, out.new) (L.Link, link.new) (C.Clock, clock.new)) }
     {
         self.begin_all(profile, boards, link, clock, out)?;
-        self.play_turns(turns, profile, boards, link, clock, out)?;
-        Ok(())
-    }
-
-    /// Plays this many turns.
-    fn play_turns<K: Sink, N: Nor, L: Link, C: Clock>(
-        &mut self,
-        turns: u32,
-        profile: &NetProfile,
-        boards: &mut [N],
-        link: &mut L,
-        clock: &mut C,
-        out: &mut K,
-    ) -> Result<(), Stop>
-        requires allowed { IsAllowed profile.now }
-        requires few { turns ≤ 1000000 }
-        requires under_way { IsUnderWay profile.now.motes profile.now.links (2 ^ 40)
-            (service_standing (self.old, map N.device boards.old) (K.Sink, out.old) (L.Link, link.old) (C.Clock, clock.old)) }
-        ensures goes { PartsGoOn result profile.now.motes profile.now.links
-            (stretch profile.now.motes profile.now.motes (each turns (λ turn. turn_of_all profile.now.motes)))
-            (service_standing (self.old, map N.device boards.old) (K.Sink, out.old) (L.Link, link.old) (C.Clock, clock.old))
-            (service_standing (self.new, map N.device boards.new) (K.Sink, out.new) (L.Link, link.new) (C.Clock, clock.new)) }
-    {
         for _turn in 0..turns {
             self.play_turn(profile, boards, link, clock, out)?;
         }

@@ -1,4 +1,6 @@
 //! Why a service ends before its turns are over.
+use dg_end::End;
+use dg_world::Fault;
 use std::alloc::AllocError;
 
 /// Why a service ends before its turns are over.
@@ -26,5 +28,38 @@ impl From<AllocError> for Stop {
 
     fn from(_error: AllocError) -> Stop {
         Stop::Memory
+    }
+}
+
+impl From<Fault> for Stop {
+    ghost use Rattle.std.specs.Prelude.{◌≡◌};
+    ghost use Rattle.dg_serve.specs.Standings.{stop_by};
+
+    ghost from_gives = { λ fault e. e ≡ stop_by fault };
+
+    fn from(fault: Fault) -> Stop {
+        match fault {
+            Fault::Stopped => Stop::Flash,
+            Fault::NotAVolume => Stop::NotAVolume,
+            Fault::NoImage => Stop::NoImage,
+        }
+    }
+}
+
+impl From<Stop> for End {
+    ghost use Rattle.std.specs.Prelude.{◌≡◌};
+    ghost use Rattle.dg_serve.specs.Endings.{end_of_stop};
+
+    ghost from_gives = { λ stop e. e ≡ end_of_stop stop };
+
+    fn from(stop: Stop) -> End {
+        match stop {
+            Stop::Memory => End::Memory,
+            Stop::Write => End::WriteFault,
+            Stop::Link => End::LinkFault,
+            Stop::Flash => End::FlashFault,
+            Stop::NotAVolume => End::NotAVolume,
+            Stop::NoImage => End::NoImage,
+        }
     }
 }

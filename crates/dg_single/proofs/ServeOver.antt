@@ -1,10 +1,9 @@
 -- A service of one mote from its first line to its last.
-use Rattle.std.proofs.Common.{◌≡◌, ◌≢◌, ℕ, ◌+◌, ◌<◌, ◌≤◌, ◌⊎◌, Bool, true, false, List, [], ◌∷◌, ◌++◌, length, set, take, append-nil, refl, ap, sym, ◌∙◌, subst, inl, inr, arith}
-use Rattle.std.specs.Prelude.{slice_get, Option, Some, None, option_map, Result, Ok, Err, IsErrAnd}
+use Rattle.std.proofs.Common.{◌≡◌, ℕ, zero, suc, ◌+◌, ◌<◌, ◌≤◌, ◌⊎◌, Bool, true, false, List, [], ◌∷◌, ◌++◌, length, set, append-nil, refl, ap, sym, ◌∙◌, subst, inl, inr, arith}
+use Rattle.std.specs.Prelude.{slice_get, replicate, Some, None, option_map, Result, Ok, Err}
 use Rattle.std.proofs.lemmas.Option.{same_Some}
 use Rattle.std.specs.List.{AllByRecursion}
 use Rattle.dg_words.specs.Counts.{Rose}
-use Rattle.dg_base.specs.Outside.{Puts}
 use Rattle.dg_base.proofs.OutsideLemmas.{Puts-join}
 use Rattle.dg_base.specs.declared.answers.Status.{Status}
 use Rattle.dg_base.specs.declared.answers.Status.TheVariants as status
@@ -18,23 +17,26 @@ use Rattle.dg_volume.specs.Stands.{IsVolume}
 use Rattle.dg_rules.specs.Events.{mote_of}
 use Rattle.dg_seed.specs.Draws.{first_generator}
 use Rattle.dg_serve.specs.Services.{Begins, Moment, course}
-use Rattle.dg_serve.specs.Endings.{StoresOf, begins, remains}
-use Rattle.dg_serve.specs.Traces.{trace, lines_text, head_lines, event_lines, trace_last_line}
+use Rattle.dg_outside.specs.Outside.{Outside, InputState, OutputState}
+use Rattle.dg_end.specs.Lines.{status_of, last_line}
+use Rattle.dg_end.specs.Writes.{WritesLast}
+use Rattle.dg_serve.specs.Endings.{StoresOf, begins, remains, end_of_stop}
+use Rattle.dg_serve.specs.Traces.{event_lines}
 use Rattle.dg_serve.specs.Standings.{Standing, StandsFor, IsBelow, IsEventAt, IsPartAt, ServedParts, PartsHalted}
-use Rattle.dg_serve.specs.Served.{ServiceOutside, IsAtVolume, WroteLast, WroteTrace, Causes, Hindered, service_outside}
-use Rattle.dg_serve.specs.Ran.{stop_status, IsOpened, CountedBy, LineWritten, TellsStop}
+use Rattle.dg_serve.specs.Served.{IsAtVolume, Hindered, DidNotBegin}
+use Rattle.dg_serve.specs.Ran.{IsOpened}
 use Rattle.dg_serve.specs.declared.stop.Stop.{Stop}
 use Rattle.dg_serve.specs.declared.stop.Stop.TheVariants as stop
 use Rattle.dg_serve.proofs.BoardLemmas.{used_then, used_more, calm_all_then}
 use Rattle.dg_serve.proofs.EventLemmas.{stands_boards}
 use Rattle.dg_serve.proofs.GoLemmas.{serves_then, lines_then, stop_then, untold_then}
 use Rattle.dg_serve.proofs.RunLemmas.{all_front, all_both}
-use Rattle.dg_serve.proofs.ServeLemmas.{outside_of, boards_endure, calm_at, wrote_by, left_same}
+use Rattle.dg_serve.proofs.OpenLemmas.{many_in}
+use Rattle.dg_serve.proofs.ServeLemmas.{outside_of, boards_endure, calm_at, wrote_all, wrote_by, not_begun}
 use Rattle.dg_serve.proofs.StartLemmas.{stands_first}
-use Rattle.dg_single.specs.Overs.{seat, BeganAndGoes, RunGoes, latest_moment}
+use Rattle.dg_single.specs.Overs.{Owns, Seat, seat, BeganAndGoes, RunGoes, latest_moment}
 use Rattle.dg_single.specs.Plans.{turns_of, plan_of}
-use Rattle.dg_single.specs.Singles.{OthersAreVolumes, MoteRun, MoteBegan, MoteServed}
-use Rattle.dg_single.specs.Rans.{MoteRan, MoteRanTo}
+use Rattle.dg_single.specs.Singles.{OthersAreVolumes, MoteRun, MoteBegan}
 use Rattle.dg_single.proofs.OverLemmas.{more_on}
 use Rattle.dg_single.proofs.PlaceLemmas.{put_same}
 
@@ -60,16 +62,16 @@ at_begun mote on boards (e ∷ es) volumes below own = (λ a was. let at = own.0
 
 -- ---- from the opening to where it ended
 
-module _ (profile : NetProfile) (mote seed turns : ℕ) (b : ServiceOutside) (p q : Standing) (o : IsOpened profile seed (record b { boards = p.boards }) p.service p.addressees p.reached (outside_of p)) (known : mote < profile.motes) where
+module _ (profile : NetProfile) (mote seed turns : ℕ) (a : Outside) (after : InputState) (p q : Standing) (o : IsOpened profile seed (record a { boards = p.boards }) p.service p.addressees p.reached (outside_of after p)) (known : mote < profile.motes) where
   abbrev First : List Row → List Store → Moment
-  First table stores = begins table profile.links stores p.service.timeline.reading p.clock seed (option_map (emptied profile.motes) b.inboxes)
+  First table stores = begins table profile.links stores p.service.timeline.reading p.clock seed (option_map (emptied profile.motes) a.link.inboxes)
 
   -- those before it powered on, as far as its service knows
   stands_opened : (table : List Row) (stores : List Store) → StoresOf profile.motes p.boards stores → OthersAreVolumes profile.motes mote p.boards → StandsFor profile.motes mote profile.links 0 p.boards (First table stores) p
   stands_opened table stores of others =
       more_on profile.motes 0 mote profile.links p.boards (First table stores) p (omega arith) (omega (arith, known))
       (λ m a low high was. others m a (omega (arith, high, known)) (λ e. omega (arith, e, high)) was) (λ m low. o.off m)
-      (stands_first profile.motes profile.links table stores p.service.timeline.reading p.clock (first_generator seed) (option_map (emptied profile.motes) b.inboxes) p of o.moment refl o.draws refl o.inboxes)
+      (stands_first profile.motes profile.links table stores p.service.timeline.reading p.clock (first_generator seed) (option_map (emptied profile.motes) a.link.inboxes) p of o.moment refl o.draws refl o.link.0)
 
   -- and so did those after it
   stands_begun : (mid : Standing) (w : ServedParts profile.motes mote (mote + 1) profile.links (Begins mote ∷ []) p mid) → (s : Moment) → OthersAreVolumes profile.motes mote p.boards → StandsFor profile.motes (mote + 1) profile.links 0 p.boards s mid → StandsFor profile.motes profile.motes profile.links 0 p.boards s mid
@@ -81,51 +83,44 @@ module _ (profile : NetProfile) (mote seed turns : ℕ) (b : ServiceOutside) (p 
   own_volume : (mid : Standing) → ServedParts profile.motes mote (mote + 1) profile.links (Begins mote ∷ []) p mid → (a : Device) → slice_get p.boards mote ≡ Some a → IsVolume a.image
   own_volume mid w a was = w.volumes mote a (omega arith) (omega arith) was
 
-  ran_all : BeganAndGoes (Ok tt) (seat profile.motes mote profile.links) turns p q → MoteRan None profile mote seed turns (record b { boards = p.boards }) (outside_of q)
+  ran_all : BeganAndGoes (Ok tt) (seat profile.motes mote profile.links) turns p q → MoteRun None profile mote seed turns (record a { boards = p.boards }) (outside_of after q)
   ran_all x =
       let w = x.begins in
       let t = x.turns_go in
       let g = t.goes in
       let own = all_both (IsEventAt mote) w.events g.events (w.own mote (refl, tt)) (g.own mote (turns_at mote t.ticks)) in
-      let faults = g.faults ∙ w.faults ∙ o.faults in
+      let faults = g.faults ∙ w.faults ∙ o.writes in
       let failures = g.failures ∙ w.failures ∙ o.failures in
       record {
-        run = record {
-          origin = p.service.timeline.reading;
-          clock = p.clock;
-          first = o.told;
-          events = w.events ++ g.events;
-          ticks = t.ticks;
-          done = plan_of mote t.ticks;
-          left = [];
-          parts = append-nil (plan_of mote t.ticks);
-          few = t.few;
-          all = λ is. refl;
-          came = λ table stores of others.
-              let s = First table stores in
-              let y = w.run p.boards s (stands_opened table stores of others) in
-              let z = g.run p.boards y.0 (stands_begun x.between w y.0 others y.2) in
-              record {
-                came = record { last = z.0; serves = serves_then profile.motes s y.0 z.0 (Begins mote ∷ []) (turns_of mote t.ticks) w.events g.events y.1 z.1; ends = (stands_boards profile.motes profile.motes 0 profile.links p.boards z.0 q z.2, z.2.inboxes, z.2.clock) };
-                whole = λ is. whole_of t.ticks z.0 z.2.moment t.all;
-              };
-          own = own;
-          volumes = at_own mote p.boards (w.events ++ g.events) (own_volume x.between w) own;
-          boards = (boards_endure profile.motes p.boards q.boards (used_then profile.motes p.boards x.between.boards q.boards (used_more (mote + 1) profile.motes p.boards x.between.boards (omega (arith, known)) w.boards) g.boards)).all;
-          port = g.port ∙ w.port ∙ o.port;
-        };
-        text = lines_text (head_lines profile) ++ event_lines (w.events ++ g.events);
-        put = Puts-join b.written p.written q.written (lines_text (head_lines profile)) (event_lines (w.events ++ g.events)) o.put
-            (subst (λ l. Puts p.written q.written l) (sym (lines_then w.events g.events)) (Puts-join p.written x.between.written q.written (event_lines w.events) (event_lines g.events) w.put g.put));
-        wrote = refl;
+        origin = p.service.timeline.reading;
+        clock = p.clock;
+        first = o.told;
+        events = w.events ++ g.events;
+        ticks = t.ticks;
+        done = plan_of mote t.ticks;
+        left = [];
+        parts = append-nil (plan_of mote t.ticks);
+        few = t.few;
+        all = λ is. refl;
+        came = λ table stores of others.
+            let s = First table stores in
+            let y = w.run p.boards s (stands_opened table stores of others) in
+            let z = g.run p.boards y.0 (stands_begun x.between w y.0 others y.2) in
+            record {
+              came = record { last = z.0; serves = serves_then profile.motes s y.0 z.0 (Begins mote ∷ []) (turns_of mote t.ticks) w.events g.events y.1 z.1; ends = (stands_boards profile.motes profile.motes 0 profile.links p.boards z.0 q z.2, z.2.inboxes, z.2.clock) };
+              whole = λ is. whole_of t.ticks z.0 z.2.moment t.all;
+            };
+        own = own;
+        volumes = at_own mote p.boards (w.events ++ g.events) (own_volume x.between w) own;
+        boards = (boards_endure profile.motes p.boards q.boards (used_then profile.motes p.boards x.between.boards q.boards (used_more (mote + 1) profile.motes p.boards x.between.boards (omega (arith, known)) w.boards) g.boards)).all;
+        port = g.port ∙ w.port ∙ o.link.1;
+        wrote = wrote_all profile (w.events ++ g.events) (event_lines w.events ++ event_lines g.events) a.output.written p.written q.written o.put (Puts-join p.written x.between.written q.written (event_lines w.events) (event_lines g.events) w.put g.put) (sym (lines_then w.events g.events));
         counts = record {
           wrote = λ is. absurd cc;
-          faults = λ other. faults;
-          faults_rise = omega (arith, faults);
+          writes = λ other. faults;
           sent = λ is. absurd cc;
-          failures = λ other. failures;
-          failures_rise = omega (arith, failures);
-          calm = λ other m a c was now. calm_at (slice_get p.boards m) (slice_get q.boards m) a c was now (calm_all_then p.boards x.between.boards q.boards w.calm g.calm m);
+          sends = λ other. failures;
+          calm = λ other m d c was now. calm_at (slice_get p.boards m) (slice_get q.boards m) d c was now (calm_all_then p.boards x.between.boards q.boards w.calm g.calm m);
         };
       }
     where
@@ -134,222 +129,128 @@ module _ (profile : NetProfile) (mote seed turns : ℕ) (b : ServiceOutside) (p 
       whole_of ticks last moment (inr late) = inr (omega (arith, moment, late))
 
   -- a stop came as it powered on
-  ran_begin : (why : Stop) → PartsHalted why profile.motes mote profile.links (Begins mote ∷ []) p q → MoteRan (Some why) profile mote seed turns (record b { boards = p.boards }) (outside_of q)
+  ran_begin : (why : Stop) → PartsHalted why profile.motes mote profile.links (Begins mote ∷ []) p q → MoteRun (Some why) profile mote seed turns (record a { boards = p.boards }) (outside_of after q)
   ran_begin why h =
       let own = h.own mote (all_front (IsPartAt mote) h.done h.left (subst (AllByRecursion (IsPartAt mote)) (sym h.all) (refl, tt))) in
       record {
-        run = record {
-          origin = p.service.timeline.reading;
-          clock = p.clock;
-          first = o.told;
-          events = h.events;
-          ticks = [];
-          done = h.done;
-          left = h.left;
-          parts = h.all;
-          few = omega arith;
-          all = λ is. absurd cc;
-          came = λ table stores of others.
-              let s = First table stores in
-              let y = h.run p.boards s (stands_opened table stores of others) in
-              record { came = record { last = y.0; serves = y.1; ends = y.2 }; whole = λ is. absurd cc };
-          own = own;
-          volumes = at_begun mote h.on p.boards h.events h.volumes h.below own;
-          boards = (boards_endure profile.motes p.boards q.boards h.boards).all;
-          port = h.port ∙ o.port;
-        };
-        text = lines_text (head_lines profile) ++ h.text;
-        put = Puts-join b.written p.written q.written (lines_text (head_lines profile)) h.text o.put h.put;
-        wrote = wrote_by why (lines_text (head_lines profile)) h.events h.text h.front h.whole;
+        origin = p.service.timeline.reading;
+        clock = p.clock;
+        first = o.told;
+        events = h.events;
+        ticks = [];
+        done = h.done;
+        left = h.left;
+        parts = h.all;
+        few = omega arith;
+        all = λ is. absurd cc;
+        came = λ table stores of others.
+            let s = First table stores in
+            let y = h.run p.boards s (stands_opened table stores of others) in
+            record { came = record { last = y.0; serves = y.1; ends = y.2 }; whole = λ is. absurd cc };
+        own = own;
+        volumes = at_begun mote h.on p.boards h.events h.volumes h.below own;
+        boards = (boards_endure profile.motes p.boards q.boards h.boards).all;
+        port = h.port ∙ o.link.1;
+        wrote = wrote_by why profile h.events h.text a.output p.written (record { written = q.written; writes = q.faults }) o.put h.put h.front h.whole;
         counts = record {
-          wrote = λ is. subst (λ n. Rose n q.faults) o.faults (h.counts.wrote (same_Some why stop.Write is));
-          faults = λ other. h.counts.faults (λ e. other (ap Some e)) ∙ o.faults;
-          faults_rise = omega (arith, o.faults, h.counts.faults_rise);
+          wrote = λ is. subst (λ n. Rose n q.faults) o.writes (h.counts.wrote (same_Some why stop.Write is));
+          writes = λ other. h.counts.faults (λ e. other (ap Some e)) ∙ o.writes;
           sent = λ is. subst (λ n. Rose n q.failures) o.failures (h.counts.sent (same_Some why stop.Link is));
-          failures = λ other. h.counts.failures (λ e. other (ap Some e)) ∙ o.failures;
-          failures_rise = omega (arith, o.failures, h.counts.failures_rise);
-          calm = λ other m a c was now. calm_at (slice_get p.boards m) (slice_get q.boards m) a c was now (h.calm (λ e. other (ap Some e)) m);
+          sends = λ other. h.counts.failures (λ e. other (ap Some e)) ∙ o.failures;
+          calm = λ other m d c was now. calm_at (slice_get p.boards m) (slice_get q.boards m) d c was now (h.calm (λ e. other (ap Some e)) m);
         };
       }
 
   -- a stop came in a turn
-  ran_turns : (why : Stop) → BeganAndGoes (Err why) (seat profile.motes mote profile.links) turns p q → MoteRan (Some why) profile mote seed turns (record b { boards = p.boards }) (outside_of q)
+  ran_turns : (why : Stop) → BeganAndGoes (Err why) (seat profile.motes mote profile.links) turns p q → MoteRun (Some why) profile mote seed turns (record a { boards = p.boards }) (outside_of after q)
   ran_turns why x =
       let w = x.begins in
       let t = x.turns_go in
       let h = t.goes in
       let at = h.own mote (all_front (IsPartAt mote) h.done h.left (subst (AllByRecursion (IsPartAt mote)) (sym h.all) (turns_at mote t.ticks))) in
       let own = all_both (IsEventAt mote) w.events h.events (w.own mote (refl, tt)) at in
-      let faults = w.faults ∙ o.faults in
+      let faults = w.faults ∙ o.writes in
       let failures = w.failures ∙ o.failures in
       let text = event_lines w.events ++ h.text in
       record {
-        run = record {
-          origin = p.service.timeline.reading;
-          clock = p.clock;
-          first = o.told;
-          events = w.events ++ h.events;
-          ticks = t.ticks;
-          done = Begins mote ∷ h.done;
-          left = h.left;
-          parts = ap (λ l. Begins mote ∷ l) h.all;
-          few = t.few;
-          all = λ is. absurd cc;
-          came = λ table stores of others.
-              let s = First table stores in
-              let y = w.run p.boards s (stands_opened table stores of others) in
-              let z = h.run p.boards y.0 (stands_begun x.between w y.0 others y.2) in
-              record {
-                came = record { last = z.0; serves = serves_then profile.motes s y.0 z.0 (Begins mote ∷ []) h.done w.events h.events y.1 z.1; ends = stop_then why profile.motes s y.0 z.0 (Begins mote ∷ []) h.done h.left w.events h.events p.boards (remains q.boards q.inboxes q.clock) y.1 z.2 };
-                whole = λ is. absurd cc;
-              };
-          own = own;
-          volumes = at_own mote p.boards (w.events ++ h.events) (own_volume x.between w) own;
-          boards = (boards_endure profile.motes p.boards q.boards (used_then profile.motes p.boards x.between.boards q.boards (used_more (mote + 1) profile.motes p.boards x.between.boards (omega (arith, known)) w.boards) h.boards)).all;
-          port = h.port ∙ w.port ∙ o.port;
-        };
-        text = lines_text (head_lines profile) ++ text;
-        put = Puts-join b.written p.written q.written (lines_text (head_lines profile)) text o.put (Puts-join p.written x.between.written q.written (event_lines w.events) h.text w.put h.put);
-        wrote = wrote_by why (lines_text (head_lines profile)) (w.events ++ h.events) text (λ is. untold_then w.events h.events h.text (h.front is)) (λ is. ap (λ l. event_lines w.events ++ l) (h.whole is) ∙ sym (lines_then w.events h.events));
+        origin = p.service.timeline.reading;
+        clock = p.clock;
+        first = o.told;
+        events = w.events ++ h.events;
+        ticks = t.ticks;
+        done = Begins mote ∷ h.done;
+        left = h.left;
+        parts = ap (λ l. Begins mote ∷ l) h.all;
+        few = t.few;
+        all = λ is. absurd cc;
+        came = λ table stores of others.
+            let s = First table stores in
+            let y = w.run p.boards s (stands_opened table stores of others) in
+            let z = h.run p.boards y.0 (stands_begun x.between w y.0 others y.2) in
+            record {
+              came = record { last = z.0; serves = serves_then profile.motes s y.0 z.0 (Begins mote ∷ []) h.done w.events h.events y.1 z.1; ends = stop_then why profile.motes s y.0 z.0 (Begins mote ∷ []) h.done h.left w.events h.events p.boards (remains q.boards q.inboxes q.clock) y.1 z.2 };
+              whole = λ is. absurd cc;
+            };
+        own = own;
+        volumes = at_own mote p.boards (w.events ++ h.events) (own_volume x.between w) own;
+        boards = (boards_endure profile.motes p.boards q.boards (used_then profile.motes p.boards x.between.boards q.boards (used_more (mote + 1) profile.motes p.boards x.between.boards (omega (arith, known)) w.boards) h.boards)).all;
+        port = h.port ∙ w.port ∙ o.link.1;
+        wrote = wrote_by why profile (w.events ++ h.events) text a.output p.written (record { written = q.written; writes = q.faults }) o.put (Puts-join p.written x.between.written q.written (event_lines w.events) h.text w.put h.put) (λ is. untold_then w.events h.events h.text (h.front is)) (λ is. ap (λ l. event_lines w.events ++ l) (h.whole is) ∙ sym (lines_then w.events h.events));
         counts = record {
           wrote = λ is. subst (λ n. Rose n q.faults) faults (h.counts.wrote (same_Some why stop.Write is));
-          faults = λ other. h.counts.faults (λ e. other (ap Some e)) ∙ faults;
-          faults_rise = let r = h.counts.faults_rise in omega (arith, faults, r);
+          writes = λ other. h.counts.faults (λ e. other (ap Some e)) ∙ faults;
           sent = λ is. subst (λ n. Rose n q.failures) failures (h.counts.sent (same_Some why stop.Link is));
-          failures = λ other. h.counts.failures (λ e. other (ap Some e)) ∙ failures;
-          failures_rise = let r = h.counts.failures_rise in omega (arith, failures, r);
-          calm = λ other m a c was now. calm_at (slice_get p.boards m) (slice_get q.boards m) a c was now (calm_all_then p.boards x.between.boards q.boards w.calm (h.calm (λ e. other (ap Some e))) m);
+          sends = λ other. h.counts.failures (λ e. other (ap Some e)) ∙ failures;
+          calm = λ other m d c was now. calm_at (slice_get p.boards m) (slice_get q.boards m) d c was now (calm_all_then p.boards x.between.boards q.boards w.calm (h.calm (λ e. other (ap Some e))) m);
         };
       }
 
-  pub ran_to : (r : Result (Unit {0}) Stop) → RunGoes r (seat profile.motes mote profile.links) turns p q → MoteRanTo r profile mote seed turns (record b { boards = p.boards }) (outside_of q)
-  ran_to (Ok u) x = ran_all x
-  ran_to (Err why) (inl h) = inr (ran_begin why h)
-  ran_to (Err why) (inr x) = inr (ran_turns why x)
+  -- all turns were played, unless it is late
+  pub began_done : BeganAndGoes (Ok tt) (seat profile.motes mote profile.links) turns p q → MoteBegan status.Done profile mote seed turns (record a { boards = p.boards }) (outside_of after q)
+  began_done x = record { why = None; traced = record { written = q.written; writes = q.faults }; run = ran_all x; ended = (refl, refl) }
 
-pub hindered_to : (x : Result (Unit {0}) Stop) (why : Stop) (profile : NetProfile) (mote seed turns : ℕ) (before after : ServiceOutside) → IsErrAnd x (λ e. e ≡ why) → after.boards ≡ before.boards → Hindered (stop_status why) profile before after × (after.clock ≡ before.clock) → MoteRanTo x profile mote seed turns before after
-hindered_to (Ok u) why profile mote seed turns before after is boards h = absurd is
-hindered_to (Err e) why profile mote seed turns before after is boards h =
-    subst (λ (w : Stop). MoteRanTo (Err w) profile mote seed turns before after) (sym is) (inl (record { hindered = h.0; boards = boards; clock = h.1 }))
+  ran_stopped : (why : Stop) → RunGoes (Err why) (seat profile.motes mote profile.links) turns p q → MoteRun (Some why) profile mote seed turns (record a { boards = p.boards }) (outside_of after q)
+  ran_stopped why (inl h) = ran_begin why h
+  ran_stopped why (inr x) = ran_turns why x
 
--- ---- the last line
-
--- what is outside, with other bytes written
-abbrev pub told_after : ServiceOutside → Option (List ℕ) → ℕ → ServiceOutside
-told_after mid v g = record mid { written = v; faults = g }
-
--- the run is the same where other bytes were written
-told : (why : Option Stop) (profile : NetProfile) (mote seed turns : ℕ) (before mid : ServiceOutside) (v : Option (List ℕ)) (g : ℕ) → MoteRun why profile mote seed turns before mid → MoteRun why profile mote seed turns before (told_after mid v g)
-told why profile mote seed turns before mid v g r = record {
-  origin = r.origin;
-  clock = r.clock;
-  first = r.first;
-  events = r.events;
-  ticks = r.ticks;
-  done = r.done;
-  left = r.left;
-  parts = r.parts;
-  few = r.few;
-  all = r.all;
-  came = λ table stores of others.
-      let x = r.came table stores of others in
-      record { came = record { last = x.came.last; serves = x.came.serves; ends = left_same why profile.motes _ (course r.done r.events r.left) x.came.last before.boards mid v g x.came.ends }; whole = x.whole };
-  own = r.own;
-  volumes = r.volumes;
-  boards = r.boards;
-  port = r.port;
-}
-
-began : (why : Option Stop) (answer : Status) (profile : NetProfile) (mote seed turns : ℕ) (before mid : ServiceOutside) (v : Option (List ℕ)) (g : ℕ) (text : List ℕ) (r : MoteRan why profile mote seed turns before mid) → Puts before.written v text → WroteTrace why answer profile (length before.boards) r.run.events text → Causes answer before (told_after mid v g)
-    → MoteBegan answer profile mote seed turns before (told_after mid v g)
-unfolding told
-began why answer profile mote seed turns before mid v g text r put wrote causes = record { why = why; run = told why profile mote seed turns before mid v g r.run; text = text; put = put; wrote = wrote; causes = causes }
-
-module _ (profile : NetProfile) (mote seed turns : ℕ) (before mid : ServiceOutside) where
-  -- how a fault of the outside is reported, where the answer is that of the stop
-  causes_of : (why : Option Stop) (answer : Status) → CountedBy why before mid → (answer ≡ status.WriteFault → why ≡ Some stop.Write) → (answer ≢ status.WriteFault → why ≢ Some stop.Write) → (answer ≡ status.LinkFault → why ≡ Some stop.Link) → (answer ≢ status.LinkFault → why ≢ Some stop.Link) → (answer ≢ status.FlashFault → why ≢ Some stop.Flash) → Causes answer before (told_after mid mid.written mid.faults)
-  causes_of why answer c write unwrite link unlink flash = record {
-    write_fault = λ is. c.wrote (write is);
-    writes = λ other. c.faults (unwrite other);
-    link_fault = λ is. c.sent (link is);
-    sends = λ other. c.failures (unlink other);
-    calm = λ other. c.calm (flash other);
-    writes_rise = c.faults_rise;
-    sends_rise = c.failures_rise;
-  }
-
-  pub served_done : MoteRan None profile mote seed turns before mid → MoteServed status.Done profile mote seed turns before mid
-  served_done r = inr (began None status.Done profile mote seed turns before mid mid.written mid.faults r.text r r.put (refl, r.wrote)
-      (causes_of None status.Done r.counts (λ is. absurd cc) (λ other is. absurd cc) (λ is. absurd cc) (λ other is. absurd cc) (λ other is. absurd cc)))
-
-  ends_memory : MoteRanTo (Err stop.Memory) profile mote seed turns before mid → MoteServed status.Memory profile mote seed turns before mid
-  ends_memory (inl h) = inl (record { hindered = h.hindered; boards = h.boards; clock = h.clock })
-  ends_memory (inr r) = inr (began (Some stop.Memory) status.Memory profile mote seed turns before mid mid.written mid.faults r.text r r.put (refl, r.wrote)
-      (causes_of (Some stop.Memory) status.Memory r.counts (λ is. absurd cc) (λ other is. absurd cc) (λ is. absurd cc) (λ other is. absurd cc) (λ other is. absurd cc)))
-
-  ends_write : MoteRanTo (Err stop.Write) profile mote seed turns before mid → MoteServed status.WriteFault profile mote seed turns before mid
-  ends_write (inl h) = inl (record { hindered = h.hindered; boards = h.boards; clock = h.clock })
-  ends_write (inr r) = inr (began (Some stop.Write) status.WriteFault profile mote seed turns before mid mid.written mid.faults r.text r r.put (refl, r.wrote)
-      (causes_of (Some stop.Write) status.WriteFault r.counts (λ is. refl) (λ other is. other refl) (λ is. absurd cc) (λ other is. absurd cc) (λ other is. absurd cc)))
-
-  ends_link : MoteRanTo (Err stop.Link) profile mote seed turns before mid → MoteServed status.LinkFault profile mote seed turns before mid
-  ends_link (inl h) = inl (record { hindered = h.hindered; boards = h.boards; clock = h.clock })
-  ends_link (inr r) = inr (began (Some stop.Link) status.LinkFault profile mote seed turns before mid mid.written mid.faults r.text r r.put (refl, r.wrote)
-      (causes_of (Some stop.Link) status.LinkFault r.counts (λ is. absurd cc) (λ other is. absurd cc) (λ is. refl) (λ other is. other refl) (λ other is. absurd cc)))
-
-  ends_flash : MoteRanTo (Err stop.Flash) profile mote seed turns before mid → MoteServed status.FlashFault profile mote seed turns before mid
-  ends_flash (inl h) = absurd h.hindered
-  ends_flash (inr r) = inr (began (Some stop.Flash) status.FlashFault profile mote seed turns before mid mid.written mid.faults r.text r r.put (refl, r.wrote)
-      (causes_of (Some stop.Flash) status.FlashFault r.counts (λ is. absurd cc) (λ other is. absurd cc) (λ is. absurd cc) (λ other is. absurd cc) (λ other is. other refl)))
-
-  -- a last line was written, or was not
-  line_told : (why : Stop) (of answer : Status) (line : List ℕ) (v : Option (List ℕ)) (g : ℕ) (r : MoteRan (Some why) profile mote seed turns before mid) → why ≢ stop.Write → why ≢ stop.Link → why ≢ stop.Flash → of ≢ status.WriteFault → of ≢ status.LinkFault → r.text ≡ trace profile r.run.events
-      → ((a : Status) (text : List ℕ) → WroteLast a of (trace profile r.run.events) line text → WroteTrace (Some why) a profile (length before.boards) r.run.events text) → LineWritten answer of line mid.written v mid.faults g → MoteBegan answer profile mote seed turns before (told_after mid v g)
-  line_told why of answer line v g r writes links stops a b whole wrote (inl t) =
-      subst (λ (x : Status). MoteBegan x profile mote seed turns before (told_after mid v g)) (sym t.0)
-      (began (Some why) of profile mote seed turns before mid v g (r.text ++ line) r (Puts-join before.written mid.written v r.text line r.put t.1)
-      (wrote of (r.text ++ line) (inl (refl, ap (λ l. l ++ line) whole)))
-      (record {
-        write_fault = λ is. absurd (a is);
-        writes = λ other. t.2 ∙ r.counts.faults (λ x. writes (same_Some why stop.Write x));
-        link_fault = λ is. absurd (b is);
-        sends = λ other. r.counts.failures (λ x. links (same_Some why stop.Link x));
-        calm = λ other. r.counts.calm (λ x. stops (same_Some why stop.Flash x));
-        writes_rise = let n = t.2 in let rise = r.counts.faults_rise in omega (arith, n, rise);
-        sends_rise = r.counts.failures_rise;
-      }))
-  line_told why of answer line v g r writes links stops a b whole wrote (inr t) =
-      subst (λ (x : Status). MoteBegan x profile mote seed turns before (told_after mid v g)) (sym t.0)
-      (began (Some why) status.WriteFault profile mote seed turns before mid v g (r.text ++ take t.1.0 line) r (Puts-join before.written mid.written v r.text (take t.1.0 line) r.put t.1.1)
-      (wrote status.WriteFault (r.text ++ take t.1.0 line) (inr (refl, (t.1.0, ap (λ l. l ++ take t.1.0 line) whole))))
-      (record {
-        write_fault = λ is. subst (λ n. Rose n g) (r.counts.faults (λ x. writes (same_Some why stop.Write x))) t.2;
-        writes = λ other. absurd (other refl);
-        link_fault = λ is. absurd cc;
-        sends = λ other. r.counts.failures (λ x. links (same_Some why stop.Link x));
-        calm = λ other. r.counts.calm (λ x. stops (same_Some why stop.Flash x));
-        writes_rise = let n = t.3 in let rise = r.counts.faults_rise in omega (arith, n, rise);
-        sends_rise = r.counts.failures_rise;
-      }))
-
-  nothing_more : (answer of : Status) (v : Option (List ℕ)) (g : ℕ) → answer ≡ of → v ≡ mid.written → g ≡ mid.faults → MoteServed of profile mote seed turns before mid → MoteServed answer profile mote seed turns before (told_after mid v g)
-  nothing_more answer of v g is same count s =
-      let P : Status → Option (List ℕ) → ℕ → Type 0 = λ a w f. MoteServed a profile mote seed turns before (told_after mid w f) in
-      subst (λ a. P a v g) (sym is) (subst (λ w. P of w g) (sym same) (subst (λ f. P of mid.written f) (sym count) s))
-
-  pub served_stop : (why : Stop) (answer : Status) (v : Option (List ℕ)) (g : ℕ) → MoteRanTo (Err why) profile mote seed turns before mid → TellsStop why answer mid.written v mid.faults g → MoteServed answer profile mote seed turns before (told_after mid v g)
-  served_stop stop.Memory answer v g r t = nothing_more answer status.Memory v g t.0 t.1 t.2 (ends_memory r)
-  served_stop stop.Write answer v g r t = nothing_more answer status.WriteFault v g t.0 t.1 t.2 (ends_write r)
-  served_stop stop.Link answer v g r t = nothing_more answer status.LinkFault v g t.0 t.1 t.2 (ends_link r)
-  served_stop stop.Flash answer v g r t = nothing_more answer status.FlashFault v g t.0 t.1 t.2 (ends_flash r)
-  served_stop stop.NotAVolume answer v g (inl h) t = absurd h.hindered
-  served_stop stop.NotAVolume answer v g (inr r) t = inr (line_told stop.NotAVolume status.NotAVolume answer (trace_last_line status.NotAVolume 0 0) v g r (λ x. absurd cc) (λ x. absurd cc) (λ x. absurd cc) (λ x. absurd cc) (λ x. absurd cc) r.wrote (λ a text w. w) t)
-  served_stop stop.NoImage answer v g (inl h) t = absurd h.hindered
-  served_stop stop.NoImage answer v g (inr r) t = inr (line_told stop.NoImage status.NoImage answer (trace_last_line status.NoImage 0 0) v g r (λ x. absurd cc) (λ x. absurd cc) (λ x. absurd cc) (λ x. absurd cc) (λ x. absurd cc) r.wrote (λ a text w. w) t)
+  -- it stopped, and its last line was written
+  pub began_stopped : (why : Stop) (answer : Status) (told : OutputState) → RunGoes (Err why) (seat profile.motes mote profile.links) turns p q → WritesLast answer (status_of (end_of_stop why)) (last_line (end_of_stop why)) (record { written = q.written; writes = q.faults }) told
+      → MoteBegan answer profile mote seed turns (record a { boards = p.boards }) (record (outside_of after q) { output = told })
+  began_stopped why answer told h ended = record { why = Some why; traced = record { written = q.written; writes = q.faults }; run = ran_stopped why h; ended = ended }
 
 -- it did not begin, and no board was used
-pub hindered_over : (x : Result (Unit {0}) Stop) (why : Stop) (profile : NetProfile) (mote seed turns : ℕ) (before after : ServiceOutside) (d : Device) → slice_get before.boards mote ≡ Some d → after.boards ≡ set before.boards mote d → IsErrAnd x (λ e. e ≡ why) → Hindered (stop_status why) profile before (record after { boards = before.boards }) × (after.clock ≡ before.clock) → MoteRanTo x profile mote seed turns before after
-hindered_over x why profile mote seed turns before after d was put is h =
-    let same : after.boards ≡ before.boards = put ∙ put_same before.boards mote d was in
-    subst (λ bs. MoteRanTo x profile mote seed turns before (record after { boards = bs })) (sym same)
-    (hindered_to x why profile mote seed turns before (record after { boards = before.boards }) is refl h)
+pub not_begun_over : (why : Stop) (answer : Status) (profile : NetProfile) (mote : ℕ) (a b : Outside) (d : Device) (told : OutputState) → slice_get a.boards mote ≡ Some d → b.boards ≡ set a.boards mote d → Hindered (status_of (end_of_stop why)) profile a (record b { boards = a.boards }) × (b.clock ≡ a.clock)
+    → WritesLast answer (status_of (end_of_stop why)) (last_line (end_of_stop why)) b.output told → DidNotBegin answer profile a (record b { output = told })
+not_begun_over why answer profile mote a b d told was put h ended =
+    let same : b.boards ≡ a.boards = put ∙ put_same a.boards mote d was in
+    subst (λ bs. DidNotBegin answer profile a (record b { output = told; boards = bs })) (sym same)
+    (not_begun why answer profile a (record b { boards = a.boards }) told refl h ended)
+
+-- ---- counts
+
+own_in : (n m : ℕ) (d : Device) → m < n → slice_get (replicate n d) m ≡ Some d
+own_in zero m d h = absurd (omega (arith, h))
+own_in (suc n) zero d h = refl
+own_in (suc n) (suc m) d h = own_in n m d (omega (arith, h))
+
+-- there are boards of which one is the mote's
+pub owned : (motes mote : ℕ) (d : Device) → mote < motes → Owns motes mote d (replicate motes d)
+owned motes mote d known = record { is = own_in motes mote d known; enough = let n = many_in d motes in omega (arith, n) }
+
+-- no count falls
+pub goes_rise : (r : Result (Unit {0}) Stop) (x : Seat) (turns : ℕ) (p q : Standing) → RunGoes r x turns p q → (p.faults ≤ q.faults) × (p.failures ≤ q.failures)
+goes_rise (Ok u) x turns p q went =
+    let a = went.begins in
+    let b = went.turns_go.goes in
+    let f = b.faults ∙ a.faults in
+    let l = b.failures ∙ a.failures in
+    (omega (arith, f), omega (arith, l))
+goes_rise (Err why) x turns p q (inl h) = (h.counts.faults_rise, h.counts.failures_rise)
+goes_rise (Err why) x turns p q (inr went) =
+    let a = went.begins in
+    let b = went.turns_go.goes in
+    let f = a.faults in
+    let l = a.failures in
+    let g = b.counts.faults_rise in
+    let k = b.counts.failures_rise in
+    (omega (arith, f, g), omega (arith, l, k))

@@ -1,5 +1,4 @@
 pub mod Plans
 pub mod Overs
 pub mod Singles
-pub mod Rans
 pub mod Networks

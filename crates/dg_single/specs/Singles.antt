@@ -4,7 +4,6 @@
 use Rattle.std.specs.Prelude.{◌≡◌, ◌≢◌, ◌⊎◌, ℕ, ◌<◌, ◌≤◌, Bool, List, [], ◌++◌, length, slice_get, Option, Some, None, option_map}
 use Rattle.std.specs.List.{AllByRecursion}
 use Rattle.dg_base.specs.Clock.{Answers, Answered}
-use Rattle.dg_base.specs.Outside.{Puts}
 use Rattle.dg_base.specs.declared.answers.Status.{Status}
 use Rattle.dg_base.specs.declared.events.Event.{Event}
 use Rattle.dg_link.specs.Inboxes.{emptied}
@@ -14,10 +13,12 @@ use Rattle.dg_object.specs.Object.{Row}
 use Rattle.dg_volume.specs.Store.{Store}
 use Rattle.dg_volume.specs.Stands.{IsVolume}
 use Rattle.dg_world.specs.Boards.{BoardsEndure}
+use Rattle.dg_outside.specs.Outside.{Outside, OutputState}
+use Rattle.dg_end.specs.Writes.{WritesEnd}
 use Rattle.dg_serve.specs.Services.{Part, Moment, Course, course}
 use Rattle.dg_serve.specs.Endings.{StoresOf, begins}
 use Rattle.dg_serve.specs.Standings.{IsEventAt}
-use Rattle.dg_serve.specs.Served.{ServiceOutside, Came, WroteTrace, AtPort, Causes, DidNotBegin, IsAtVolume}
+use Rattle.dg_serve.specs.Served.{Came, WroteTrace, AtPort, CountedBy, service_end, DidNotBegin, IsAtVolume}
 use Rattle.dg_serve.specs.declared.stop.Stop.{Stop}
 use Rattle.dg_single.specs.Overs.{latest_moment}
 use Rattle.dg_single.specs.Plans.{plan_of}
@@ -27,16 +28,16 @@ abbrev pub OthersAreVolumes : (motes mote : ℕ) → List Device → Type 0
 OthersAreVolumes motes mote boards = (m : ℕ) (a : Device) → m < motes → m ≢ mote → slice_get boards m ≡ Some a → IsVolume a.image
 
 -- From this moment on the service came as far as this. If it did not stop, all turns were played, unless it is late.
-pub record MoteCame (why : Option Stop) (motes : ℕ) (s : Moment) (c : Course) (first : List Device) (after : ServiceOutside)
+pub record MoteCame (why : Option Stop) (motes : ℕ) (s : Moment) (c : Course) (first : List Device) (b : Outside)
     (all : Type 0) : Type 0 where
-  pub came : Came why motes s c first after
+  pub came : Came why motes s c first b
   pub whole : why ≡ None → all ⊎ (latest_moment ≤ came.last.world.moment)
 
--- The service began: its link was opened, and its clock read.
-pub record MoteRun (why : Option Stop) (profile : NetProfile) (mote seed turns : ℕ) (before after : ServiceOutside) : Type 0 where
+-- The service began: its link was opened, and its clock read. It came as far as this before its last line.
+pub record MoteRun (why : Option Stop) (profile : NetProfile) (mote seed turns : ℕ) (a b : Outside) : Type 0 where
   pub origin : ℕ
   pub clock : Option Answers
-  pub first : Answered before.clock clock origin
+  pub first : Answered a.clock clock origin
   -- the events that were applied, in which turns the mote was to tick, the parts that were done, and those that are left
   pub events : List Event
   pub ticks : List Bool
@@ -46,26 +47,26 @@ pub record MoteRun (why : Option Stop) (profile : NetProfile) (mote seed turns :
   pub few : length ticks ≤ turns
   pub all : why ≡ None → left ≡ []
   -- whatever the boards stand for, and whatever the table of images is: the rules of a service do not look at it
-  pub came : (table : List Row) (stores : List Store) → StoresOf profile.motes before.boards stores
-      → OthersAreVolumes profile.motes mote before.boards
+  pub came : (table : List Row) (stores : List Store) → StoresOf profile.motes a.boards stores
+      → OthersAreVolumes profile.motes mote a.boards
       → MoteCame why profile.motes (begins table profile.links stores origin clock seed
-      (option_map (emptied profile.motes) before.inboxes))
-      (course done events left) before.boards after (length ticks ≡ turns)
+      (option_map (emptied profile.motes) a.link.inboxes))
+      (course done events left) a.boards b (length ticks ≡ turns)
   -- each event was at the mote, and there was no event if its board is not a volume
   pub own : AllByRecursion (IsEventAt mote) events
-  pub volumes : AllByRecursion (IsAtVolume before.boards) events
-  pub boards : BoardsEndure before.boards after.boards
-  pub port : AtPort profile before after
+  pub volumes : AllByRecursion (IsAtVolume a.boards) events
+  pub wrote : WroteTrace why profile events a.output b.output
+  pub boards : BoardsEndure a.boards b.boards
+  pub port : AtPort profile a.link b.link
+  pub counts : CountedBy why a b
 
--- It wrote the trace of its events, and then the last line of its status.
-pub record MoteBegan (answer : Status) (profile : NetProfile) (mote seed turns : ℕ) (before after : ServiceOutside) : Type 0 where
+-- The service began, and ended so: its last line, if there is one, was written after its trace.
+pub record MoteBegan (answer : Status) (profile : NetProfile) (mote seed turns : ℕ) (a b : Outside) : Type 0 where
   pub why : Option Stop
-  pub run : MoteRun why profile mote seed turns before after
-  pub text : List ℕ
-  pub put : Puts before.written after.written text
-  pub wrote : WroteTrace why answer profile (length before.boards) run.events text
-  pub causes : Causes answer before after
+  pub traced : OutputState
+  pub run : MoteRun why profile mote seed turns a (record b { output = traced })
+  pub ended : WritesEnd answer (service_end why) traced b.output
 
-abbrev pub MoteServed : Status → NetProfile → (mote seed turns : ℕ) → (before after : ServiceOutside) → Type 0
-MoteServed answer profile mote seed turns before after =
-    DidNotBegin answer profile before after ⊎ MoteBegan answer profile mote seed turns before after
+abbrev pub MoteServed : Status → NetProfile → (mote seed turns : ℕ) → (a b : Outside) → Type 0
+MoteServed answer profile mote seed turns a b =
+    DidNotBegin answer profile a b ⊎ MoteBegan answer profile mote seed turns a b

@@ -12,7 +12,7 @@ use dg_base::Event;
 use dg_mote::Outbox;
 use dg_node::Node;
 use dg_nor::Nor;
-use dg_serve::{Stop, stop_of};
+use dg_serve::Stop;
 use dg_world::play_alone;
 
 /// What an event does at a mote and its board, at a moment.
@@ -37,6 +37,6 @@ pub(crate) fn play<N: Nor>(
     let runs = &mut motes[index];
     match play_alone(runs, now, event, board) {
         Ok(sent) => Ok(sent),
-        Err(fault) => Err(stop_of(fault)),
+        Err(fault) => Err(Stop::from(fault)),
     }
 }

@@ -17,7 +17,6 @@ returns-in-Serve-clause-done g c =
     said_done c.args.command.now _ c.in-Serve.is _ _ _ (record {
       served = c.serve_network.ensures.served;
       keeps = λ profile allowed x table stores fits shaped. rules.kept _ profile _ _ _ _ allowed x table stores fits shaped;
-      script = λ profile allowed x stores fits. rules.script _ profile _ _ _ _ allowed x stores fits;
       replayed = λ profile allowed x table stores fits. rules.replayed _ profile _ _ _ _ allowed x table stores fits;
     })
 

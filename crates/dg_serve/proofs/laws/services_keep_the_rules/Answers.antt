@@ -15,10 +15,10 @@ use Rattle.dg_serve.proofs.AnyLemmas.{AnyLaws, GoldenLaws, stays_consistent, sta
 use Rattle.dg_serve.proofs.laws.services_keep_the_rules.Goals as goal
 
 pub returns-clause-kept : goal.returns-clause-kept
-returns-clause-kept c = λ answer profile seed turns before after allowed x table stores fits shaped.
-    let came = x.came table stores fits in
-    let run = serves_run profile.motes _ x.done x.events came.last (done_fits profile.motes turns x.done x.left x.parts) came.serves in
-    let boards = plays_boards profile table stores x.events came.last.world allowed fits.count shaped run in
+returns-clause-kept c = λ answer profile seed turns a b allowed x table stores fits shaped.
+    let came = x.ran.came table stores fits in
+    let run = serves_run profile.motes _ x.ran.done x.ran.events came.last (done_fits profile.motes turns x.ran.done x.ran.left x.ran.parts) came.serves in
+    let boards = plays_boards profile table stores x.ran.events came.last.world allowed fits.count shaped run in
     let part : (f : ServedFirst (first_world table profile.links none_narrow stores) run.played) → PlaysBoards table stores profile.links none_narrow f.first f.last = λ f. first_boards table stores profile.links run.played came.last.world boards f in
     let rules = c.scripts_with_boards.ensures in
     let keep = c.consistency_is_kept.ensures in
@@ -28,16 +28,16 @@ returns-clause-kept c = λ answer profile seed turns before after allowed x tabl
     let first : World = first_world table profile.links none_narrow stores in
     let none : RunOf profile.motes first [] first = record { played = []; items = refl; plays = plays_none first first refl; ranges = tt } in
     let none_boards = plays_boards profile table stores [] first allowed fits.count shaped none in
-    let begins_so : IsSome before.inboxes → StoresAgree table stores → IsHonestSo table profile.motes (begins table profile.links stores x.origin x.clock seed (option_map (emptied profile.motes) before.inboxes)) = λ told agree. record {
+    let begins_so : IsSome a.link.inboxes → StoresAgree table stores → IsHonestSo table profile.motes (begins table profile.links stores x.ran.origin x.ran.clock seed (option_map (emptied profile.motes) a.link.inboxes)) = λ told agree. record {
       agrees = (rules.plays table stores profile.links none_narrow [] first none_boards agree tt).agrees;
       same = refl;
       count = first_count table stores profile.links ∙ fits.count;
-      waits = none_waits table profile.motes before.inboxes told;
+      waits = none_waits table profile.motes a.link.inboxes told;
     } in
-    let so : IsSome before.inboxes → StoresAgree table stores → AllByRecursion (HonestAlone table) x.events × IsHonestSo table profile.motes came.last = λ told agree. parts_honest c.agreement_is_kept.ensures.stepped table profile.motes x.done _ came.last x.events (done_fits profile.motes turns x.done x.left x.parts) (begins_so told agree) came.serves in
+    let so : IsSome a.link.inboxes → StoresAgree table stores → AllByRecursion (HonestAlone table) x.ran.events × IsHonestSo table profile.motes came.last = λ told agree. parts_honest c.agreement_is_kept.ensures.stepped table profile.motes x.ran.done _ came.last x.ran.events (done_fits profile.motes turns x.ran.done x.ran.left x.ran.parts) (begins_so told agree) came.serves in
     record {
       run = run;
-      honest = λ told agree. record { agree = agree; hold = played_honest table x.events run.played first came.last.world run.items run.plays refl (so told agree).0 };
+      honest = λ told agree. record { agree = agree; hold = played_honest table x.ran.events run.played first came.last.world run.items run.plays refl (so told agree).0 };
       next = λ told agree part dt word bytes after takes. next_honest c.agreement_is_kept.ensures.stepped table profile.motes part dt word bytes came.last after (so told agree).1 takes;
       legal = λ f h. rules.legal table stores profile.links none_narrow f.first f.last (part f) h.agree h.hold;
       keeps = λ f h. rules.keeps table stores profile.links none_narrow f.first f.last (part f) h.agree h.hold;
@@ -49,20 +49,20 @@ returns-clause-kept c = λ answer profile seed turns before after allowed x tabl
     }
 
 pub returns-clause-script : goal.returns-clause-script
-returns-clause-script c = λ answer profile seed turns before after allowed x stores fits.
-    let came = x.came [] stores fits in
-    is_script profile x.events allowed (all_served profile.motes _ x.done x.events came.last (done_fits profile.motes turns x.done x.left x.parts) came.serves)
+returns-clause-script c = λ answer profile seed turns a b allowed x stores fits.
+    let came = x.ran.came [] stores fits in
+    is_script profile x.ran.events allowed (all_served profile.motes _ x.ran.done x.ran.events came.last (done_fits profile.motes turns x.ran.done x.ran.left x.ran.parts) came.serves)
 
 pub returns-clause-replayed : goal.returns-clause-replayed
-returns-clause-replayed c = λ answer profile seed turns before after allowed x table stores fits.
-    let came = x.came table stores fits in
-    let done = done_fits profile.motes turns x.done x.left x.parts in
-    let script = is_script profile x.events allowed (all_served profile.motes _ x.done x.events came.last done came.serves) in
-    replays_to profile x.events table stores came.last.world script (serves_run profile.motes _ x.done x.events came.last done came.serves)
+returns-clause-replayed c = λ answer profile seed turns a b allowed x table stores fits.
+    let came = x.ran.came table stores fits in
+    let done = done_fits profile.motes turns x.ran.done x.ran.left x.ran.parts in
+    let script = is_script profile x.ran.events allowed (all_served profile.motes _ x.ran.done x.ran.events came.last done came.serves) in
+    replays_to profile x.ran.events table stores came.last.world script (serves_run profile.motes _ x.ran.done x.ran.events came.last done came.serves)
 
 pub returns-clause-golden : goal.returns-clause-golden
-returns-clause-golden c = λ answer profile seed turns before after allowed x stores fits kept is.
-    let came = x.came [] stores fits in
-    let run = serves_run profile.motes _ x.done x.events came.last (done_fits profile.motes turns x.done x.left x.parts) came.serves in
+returns-clause-golden c = λ answer profile seed turns a b allowed x stores fits kept is.
+    let came = x.ran.came [] stores fits in
+    let run = serves_run profile.motes _ x.ran.done x.ran.events came.last (done_fits profile.motes turns x.ran.done x.ran.left x.ran.parts) came.serves in
     let found = c.golden_is_found.ensures in
-    finds_golden (record { stepped = found.stepped; found = found.found; goes_on = found.goes_on }) answer profile seed turns before after x [] stores fits run kept is
+    finds_golden (record { stepped = found.stepped; found = found.found; goes_on = found.goes_on }) answer profile seed turns a b x [] stores fits run kept is

@@ -1,4 +1,4 @@
-use Rattle.std.proofs.Common.{length, subst, sym, [], refl, ◌∙◌}
+use Rattle.std.proofs.Common.{subst, sym, [], refl, ◌∙◌}
 use Rattle.std.specs.Prelude.{IsSome, option_map}
 use Rattle.std.specs.List.{AllByRecursion}
 use Rattle.dg_link.specs.Inboxes.{emptied}
@@ -17,7 +17,7 @@ use Rattle.dg_serve.proofs.AnyLemmas.{AnyLaws, GoldenLaws, stays_consistent, sta
 use Rattle.dg_single.proofs.laws.services_of_one_keep_the_rules.Goals as goal
 
 pub returns-clause-kept : goal.returns-clause-kept
-returns-clause-kept c = λ answer profile mote seed turns before after allowed known x table stores fits others shaped.
+returns-clause-kept c = λ answer profile mote seed turns a b allowed known x table stores fits others shaped.
     let came = (x.run.came table stores fits others).came in
     let run = serves_run profile.motes _ x.run.done x.run.events came.last (done_fits profile.motes mote x.run.ticks x.run.done x.run.left known x.run.parts) came.serves in
     let boards = plays_boards profile table stores x.run.events came.last.world allowed fits.count shaped run in
@@ -30,13 +30,13 @@ returns-clause-kept c = λ answer profile mote seed turns before after allowed k
     let first : World = first_world table profile.links none_narrow stores in
     let none : RunOf profile.motes first [] first = record { played = []; items = refl; plays = plays_none first first refl; ranges = tt } in
     let none_boards = plays_boards profile table stores [] first allowed fits.count shaped none in
-    let begins_so : IsSome before.inboxes → StoresAgree table stores → IsHonestSo table profile.motes (begins table profile.links stores x.run.origin x.run.clock seed (option_map (emptied profile.motes) before.inboxes)) = λ told agree. record {
+    let begins_so : IsSome a.link.inboxes → StoresAgree table stores → IsHonestSo table profile.motes (begins table profile.links stores x.run.origin x.run.clock seed (option_map (emptied profile.motes) a.link.inboxes)) = λ told agree. record {
       agrees = (rules.plays table stores profile.links none_narrow [] first none_boards agree tt).agrees;
       same = refl;
       count = first_count table stores profile.links ∙ fits.count;
-      waits = none_waits table profile.motes before.inboxes told;
+      waits = none_waits table profile.motes a.link.inboxes told;
     } in
-    let so : IsSome before.inboxes → StoresAgree table stores → AllByRecursion (HonestAlone table) x.run.events × IsHonestSo table profile.motes came.last = λ told agree. parts_honest c.agreement_is_kept.ensures.stepped table profile.motes x.run.done _ came.last x.run.events (done_fits profile.motes mote x.run.ticks x.run.done x.run.left known x.run.parts) (begins_so told agree) came.serves in
+    let so : IsSome a.link.inboxes → StoresAgree table stores → AllByRecursion (HonestAlone table) x.run.events × IsHonestSo table profile.motes came.last = λ told agree. parts_honest c.agreement_is_kept.ensures.stepped table profile.motes x.run.done _ came.last x.run.events (done_fits profile.motes mote x.run.ticks x.run.done x.run.left known x.run.parts) (begins_so told agree) came.serves in
     record {
       run = run;
       honest = λ told agree. record { agree = agree; hold = played_honest table x.run.events run.played first came.last.world run.items run.plays refl (so told agree).0 };
@@ -51,23 +51,23 @@ returns-clause-kept c = λ answer profile mote seed turns before after allowed k
     }
 
 pub returns-clause-script : goal.returns-clause-script
-returns-clause-script c = λ answer profile mote seed turns before after allowed known x stores fits others.
+returns-clause-script c = λ answer profile mote seed turns a b allowed known x stores fits others.
     let came = (x.run.came [] stores fits others).came in
     is_script profile x.run.events allowed (all_served profile.motes _ x.run.done x.run.events came.last (done_fits profile.motes mote x.run.ticks x.run.done x.run.left known x.run.parts) came.serves)
 
 pub returns-clause-replayed : goal.returns-clause-replayed
-returns-clause-replayed c = λ answer profile mote seed turns before after allowed known x table stores fits others.
+returns-clause-replayed c = λ answer profile mote seed turns a b allowed known x table stores fits others.
     let came = (x.run.came table stores fits others).came in
     let done = done_fits profile.motes mote x.run.ticks x.run.done x.run.left known x.run.parts in
     let script = is_script profile x.run.events allowed (all_served profile.motes _ x.run.done x.run.events came.last done came.serves) in
     replays_to profile x.run.events table stores came.last.world script (serves_run profile.motes _ x.run.done x.run.events came.last done came.serves)
 
 pub returns-clause-golden : goal.returns-clause-golden
-returns-clause-golden c = λ answer profile mote seed turns before after allowed known x stores fits others kept is.
+returns-clause-golden c = λ answer profile mote seed turns a b allowed known x stores fits others kept is.
     let came = (x.run.came [] stores fits others).came in
     let run = serves_run profile.motes _ x.run.done x.run.events came.last (done_fits profile.motes mote x.run.ticks x.run.done x.run.left known x.run.parts) came.serves in
     let found = c.golden_is_found.ensures in
     let laws : GoldenLaws = record { stepped = found.stepped; found = found.found; goes_on = found.goes_on } in
     let keeps = keeps_behind laws profile.motes [] stores profile.links run.played came.last.world fits.count kept run.plays run.ranges in
-    ends_found x.why answer profile (length before.boards) _ (course x.run.done x.run.events x.run.left) came.last before.boards after x.text x.wrote came.ends
-    (λ n. next_finds laws profile.motes came.last x.run.left before.boards (remains after.boards after.inboxes after.clock) keeps (left_fits profile.motes mote x.run.ticks x.run.done x.run.left known x.run.parts) n) is
+    ends_found x.why answer profile.motes _ (course x.run.done x.run.events x.run.left) came.last a.boards (record b { output = x.traced }) x.traced b.output x.ended came.ends
+    (λ n. next_finds laws profile.motes came.last x.run.left a.boards (remains b.boards b.link.inboxes b.clock) keeps (left_fits profile.motes mote x.run.ticks x.run.done x.run.left known x.run.parts) n) is

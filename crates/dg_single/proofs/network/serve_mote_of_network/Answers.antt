@@ -1,15 +1,23 @@
-use Rattle.dg_serve.specs.Served.{ServiceOutside, service_outside}
-use Rattle.dg_single.proofs.NetworkOver.{served_by, none_served}
+use Rattle.std.specs.Prelude.{Ok, Err}
+use Rattle.dg_outside.specs.Outside.{Outside, input_of, output_of, link_state, outside}
+use Rattle.dg_single.proofs.NetworkOver.{ended_over}
 use Rattle.dg_single.proofs.network.serve_mote_of_network.Goals as goal
 
 pub returns-in-Ok-clause-served : goal.returns-in-Ok-clause-served
-returns-in-Ok-clause-served g c = λ boards owns.
-    served_by c.in-Ok.profile c.args.mote c.serve_in.result c.args.seed c.args.turns _ _ c.in-Ok.ensures.read (c.serve_in.ensures boards owns)
+returns-in-Ok-clause-served g c = λ boards owns. record {
+  outcome = Ok c.in-Ok.profile;
+  read = c.in-Ok.ensures.read;
+  done = c.serve_in.ensures.done (input_of (g.S.Source, c.args.input.now)) (input_of (g.S.Source, c.read_network.new.input)) boards owns;
+}
 
 pub returns-in-Err-clause-served : goal.returns-in-Err-clause-served
 returns-in-Err-clause-served g c = λ boards owns.
-    let before : ServiceOutside = service_outside (g.K.Sink.written c.args.out.now) (g.K.Sink.faults c.args.out.now) (g.C.Clock.told c.args.clock.now) (g.L.Link.inboxes c.args.link.now) (g.L.Link.faults c.args.link.now) (g.L.Link.first_port c.args.link.now) boards in
-    none_served c.in-Err.why c.args.mote c.tell_none.result c.args.seed c.args.turns _ _ _ _ before (g.N.Nor.device c.args.board.now) _ _ owns.is c.in-Err.ensures.read c.tell_none.ensures
+    let a : Outside = outside (input_of (g.S.Source, c.args.input.now)) (output_of (g.K.Sink, c.args.out.now)) (link_state (g.L.Link, c.args.link.now)) (g.C.Clock.told c.args.clock.now) boards in
+    record {
+      outcome = Err c.in-Err.end;
+      read = c.in-Err.ensures.read;
+      done = ended_over c.in-Err.end c.fail.result c.args.mote a (g.N.Nor.device c.args.board.now) (input_of (g.S.Source, c.read_network.new.input)) (output_of (g.K.Sink, c.fail.new.out)) owns.is c.fail.ensures.ends;
+    }
 
 pub returns-in-Ok-clause-buffers : goal.returns-in-Ok-clause-buffers
 returns-in-Ok-clause-buffers g c = let b = c.a_mote_buffers_little.ensures in (b.alive, b.values)

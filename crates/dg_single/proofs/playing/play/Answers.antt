@@ -23,6 +23,6 @@ returns-in-Ok-clause-played g c = λ boards was at. (
 pub returns-in-Err-clause-played : goal.returns-in-Err-clause-played
 returns-in-Err-clause-played g c = λ boards was at. (
   Err c.in-Err.fault,
-  ap (λ f. Err f) c.stop_of.ensures,
+  ap (λ f. Err f) c.from.ensures,
   played_over (Err c.in-Err.fault) c.args.event.now c.args.now c.from-index.result c.args.motes.now (get_or c.args.motes.now c.from-index.result c.index-motes-index.result) c.play_alone.new.runs (g.N.Nor.device c.args.board.now) (g.N.Nor.device c.play_alone.new.board) (omega (arith, c.from-index.ensures, c.requires.motes)) (ap (λ x. get_or c.args.motes.now c.from-index.result x) c.index-motes-index.is) c.in-Err.ensures.plays c.in-Err.ensures.powers c.args.mote c.from-index.ensures boards was at,
 )

@@ -2,7 +2,7 @@ use Rattle.std.proofs.Common.{map}
 use Rattle.dg_serve.specs.Each.{each}
 use Rattle.dg_serve.specs.Services.{turn_of_all}
 use Rattle.dg_serve.specs.Standings.{ServedParts, service_standing}
-use Rattle.dg_serve.proofs.service.Service.play_turns.Given as goal
+use Rattle.dg_serve.proofs.service.Service.run.Given as goal
 
 abbrev pub invariant-loop-turn : goal.invariant-loop-turn
 invariant-loop-turn g l =
