@@ -1,4 +1,4 @@
--- A base mote does one more base_event, or stops in it.
+-- A base mote does one more event, or stops in it.
 use Rattle.std.proofs.Common.{◌≡◌, ℕ, suc, ◌+◌, ◌≤◌, List, [], ◌∷◌, ◌++◌, length, refl, ap, sym, ◌∙◌, subst, append_assoc, append-nil, length-append, arith}
 use Rattle.std.specs.Prelude.{Option, Some, None, option_map, map, Result, Ok, Err, OnOk, IfSome}
 use Rattle.std.proofs.lemmas.Result.{IfOk-at_ok}
@@ -38,7 +38,7 @@ use Rattle.dg_node.specs.Ends.{NodeEnd, NodeDone}
 use Rattle.dg_serial_base.specs.inner.Ends.{result_of}
 use Rattle.dg_serial_base.proofs.WriteLemmas.{puts_then, puts_front_then}
 
--- ---- one base_event
+-- ---- one event
 
 module _ (b : Base) (s : Store) (done : List BaseEvent) (d : BaseEvent) (before : At) (v : Running) (c : List ℕ) (stood : Stood b s done v c before) where
   abbrev e : Effect
@@ -86,7 +86,7 @@ module _ (b : Base) (s : Store) (done : List BaseEvent) (d : BaseEvent) (before 
   base_event_done r u a new frame time stands x timely =
       base_event_ends (result_of r) u new frame time (frame_said frame e (Some v.node) a new r (Some u.node) x) (effect_ends frame e (Some v.node) a new r before.store u.node u.timeline.moment x stands timely)
 
--- ---- a base_event at the next moment
+-- ---- a event at the next moment
 
 pub timely_next : ((m : MoteState) (now then : ℕ) → now ≤ then → Timely m now → Timely m then) → (m : MoteState) (moment step new now : ℕ) → Timely m moment → now ≡ new → new ≡ moment + step → Timely m now
 timely_next law m moment step new now t p q = let le : moment ≤ now = omega (arith, p, q) in law m moment now le t
@@ -135,7 +135,7 @@ frame_longs {o} sent is = subst (λ (x : Option (List ℕ)). IfSome x (λ f. 1 �
 
 -- ---- and what is written
 
--- a base_event that failed is the last one
+-- a event that failed is the last one
 pub base_event_halts : (why : End) (a : Outset) (done : List BaseEvent) (d : BaseEvent) (before : At) (v : Running) (c : List ℕ) (now : Option (List ℕ)) (new : Device)
     → Stood a.base a.store done v c before → Puts a.written now (line_sent before) → AreOnLine before → BaseEventFails why a.base a.store done d before new → BaseEventsHalted why a (done ++ d ∷ []) now new
 base_event_halts ends.FlashFault a done d before v c now new stood put fits x =
@@ -159,7 +159,7 @@ stopped_more ends.NoImage b there rest more first now new x = x
 stopped_more ends.FlashFault b there rest more first now new x = (x.0, x.1, x.2 ++ more, x.3, ap (λ (ds : List BaseEvent). ds ++ more) x.4, x.5, x.6)
 stopped_more end b there rest more first now new x = absurd x
 
--- it halted, whatever base_events were to follow
+-- it halted, whatever events were to follow
 pub halted_more : (why : End) (a : Outset) (all more : List BaseEvent) (now : Option (List ℕ)) (new : Device) → BaseEventsHalted why a all now new → BaseEventsHalted why a (all ++ more) now new
 halted_more why a all more now new h =
     record {
@@ -172,7 +172,7 @@ halted_more why a all more now new h =
       by = stopped_more why a.base h.there h.rest more a.written now new h.by;
     }
 
--- ---- a base_event, and what it sent is written to the line
+-- ---- a event, and what it sent is written to the line
 
 all_and_one : (frames : List (List ℕ)) (frame : Option (List ℕ)) → AllByRecursion IsOnLine frames → IfSome frame IsOnLine → AllByRecursion IsOnLine (frames ++ one_if frame)
 all_and_one [] None all one = tt
@@ -180,7 +180,7 @@ all_and_one [] (Some frame) all one = (one, tt)
 all_and_one (f ∷ frames) frame all one = (all.0, all_and_one frames frame all.1 one)
 
 module _ (a : Outset) (done : List BaseEvent) (d : BaseEvent) (before : At) (old now : Option (List ℕ)) (put : Puts a.written old (line_sent before)) (fits : AreOnLine before) where
-  -- what is on the line after the base_event
+  -- what is on the line after the event
   said_then : (there : At) (frame : Option (List ℕ)) → map frame_of there.sent ≡ map frame_of before.sent ++ one_if frame → line_sent there ≡ line_sent before ++ stuffed_line (one_if frame)
   said_then there frame e = ap stuffed_line e ∙ said_one (map frame_of before.sent) (one_if frame)
 

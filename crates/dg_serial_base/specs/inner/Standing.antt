@@ -77,7 +77,7 @@ pub record LineAt : Type 0 where
 abbrev pub code_on_line : (written : Option (List ℕ)) → (mote : Running) → (reading : FrameReading) → (chip : Device) → LineAt
 code_on_line written mote reading chip = record { code = code_at written mote chip; reading = reading }
 
--- what a base_event leaves: the code's mote over its chip, and the frame that is to be written, if there is one
+-- what a event leaves: the code's mote over its chip, and the frame that is to be written, if there is one
 pub record BaseEventLeft : Type 0 where
   pub mote : Running
   pub chip : Device
@@ -117,7 +117,7 @@ abbrev pub EffectEnds : {T : Type 0} → Result T End → (s : Store) → Effect
 EffectEnds (Ok x) s e now new v = IsLeft e new.image v now
 EffectEnds (Err why) s e now new v = FailedBy why s e new
 
--- ---- the mote after its base_events
+-- ---- the mote after its events
 
 -- the time and the draws of this many events
 pub record IsTime (t : Timeline) (b : Base) (events : ℕ) : Type 0 where
@@ -125,7 +125,7 @@ pub record IsTime (t : Timeline) (b : Base) (events : ℕ) : Type 0 where
   pub moment : t.moment ≡ b.step * events
   pub draws : generator_of t.draws ≡ generator_after b.seed events
 
--- These base_events were done, and the code's mote over a chip of these bytes is the mote then.
+-- These events were done, and the code's mote over a chip of these bytes is the mote then.
 pub record Stood (b : Base) (s : Store) (done : List BaseEvent) (v : Running) (c : List ℕ) (there : At) : Type 0 where
   pub state : MoteState
   pub run : BaseEventsRun b (powered b s) done there
@@ -147,14 +147,14 @@ abbrev pub one_if : Option (List ℕ) → List (List ℕ)
 one_if None = []
 one_if (Some frame) = frame ∷ []
 
--- One more base_event was done, in which this frame was sent, if any.
+-- One more event was done, in which this frame was sent, if any.
 pub record DoneOne (b : Base) (s : Store) (done : List BaseEvent) (d : BaseEvent) (before : At) (left : BaseEventLeft)
     : Type 0 where
   pub there : At
   pub stood : Stood b s (done ++ d ∷ []) left.mote left.chip.image there
   pub sent : map frame_of there.sent ≡ map frame_of before.sent ++ one_if left.frame
 
--- A base_event found no image to start.
+-- A event found no image to start.
 pub record LacksIn (b : Base) (s : Store) (done : List BaseEvent) (d : BaseEvent) (before : At) (c : List ℕ) : Type 0 where
   pub there : At
   pub run : BaseEventsRun b (powered b s) (done ++ d ∷ []) there
@@ -162,7 +162,7 @@ pub record LacksIn (b : Base) (s : Store) (done : List BaseEvent) (d : BaseEvent
   pub sent : there.sent ≡ before.sent
   pub stands : Stands c there.store
 
--- The chip stopped in a base_event.
+-- The chip stopped in a event.
 pub record StopsInBaseEvent (b : Base) (d : BaseEvent) (before : At) (new : Device) : Type 0 where
   pub state : MoteState
   pub on : before.mote ≡ Some state
@@ -225,7 +225,7 @@ StoppedBy end b there rest first now new = ⊥
 abbrev pub AreOnLine : At → Type 0
 AreOnLine there = AllByRecursion IsOnLine (map frame_of there.sent)
 
--- Some of these base_events were done, and then the mote stopped.
+-- Some of these events were done, and then the mote stopped.
 pub record BaseEventsHalted (why : End) (a : Outset) (all : List BaseEvent) (now : Option (List ℕ)) (new : Device) : Type 0 where
   pub done : List BaseEvent
   pub rest : List BaseEvent
@@ -235,7 +235,7 @@ pub record BaseEventsHalted (why : End) (a : Outset) (all : List BaseEvent) (now
   pub fits : AreOnLine there
   pub by : StoppedBy why a.base there rest a.written now new
 
--- These base_events were done, and what was sent is written.
+-- These events were done, and what was sent is written.
 pub record CompletedOn (a : Outset) (all : List BaseEvent) (now : CodeAt) : Type 0 where
   pub there : At
   pub stood : Stood a.base a.store all now.mote now.chip.image there
