@@ -7,7 +7,9 @@ use Rattle.dg_object.specs.Object.{row_of}
 use Rattle.dg_script.specs.Contents.{generated, generated_byte}
 use Rattle.dg_script.specs.Places.{none_narrow}
 use Rattle.dg_trial.specs.Schedule.{size_by, row_by}
-use Rattle.std.specs.Prelude.{Some, slice_get, slice_index_or, codes, Result, Ok}
+use Rattle.std.specs.Prelude.{Some, slice_get, slice_index_or, codes, Result, Ok, Err}
+use Rattle.dg_end.specs.declared.ends.End.{End}
+use Rattle.dg_end.specs.declared.ends.End.TheVariants as ends
 use Rattle.rand_pcg.specs.Lcg.{Lcg}
 use Rattle.dg_words.specs.Cells.{AreBytes}
 use Rattle.dg_nor.specs.Device.{Device}
@@ -117,18 +119,29 @@ not_taken w row e taken =
     let free : is_taken (row_at w.declared row.image row.version) row ≡ false = ap (λ (rows : List Row). is_taken (row_at rows row.image row.version) row) e in
     cc
 
+-- an answer of one type that memory ran out is that of another
+pub out_of_memory : {A B : Type 0} (e : End) → ◌≡◌ {A = Result A End} (Err e) (Err ends.Memory) → ◌≡◌ {A = Result B End} (Err e) (Err ends.Memory)
+out_of_memory {A = A} {B = B} e is =
+    let same : e ≡ ends.Memory = cc in
+    let to : End → Result B End = λ x. Err x in
+    ap to same
+
 pub content_is : (content made : List ℕ) → ◌≡◌ {A = Result (List ℕ) LineFault} (Ok made) (Ok content) → content ≡ made
 content_is content made e = cc
 
-pub content_fits : (content made : List ℕ) (n seed : ℕ) → made ≡ generated n seed → n ≤ 70656 → content ≡ made → length content ≤ 1048576
-unfolding generated
-content_fits content made n seed is few e =
-    let h : length content ≡ n = ap length (e ∙ is) ∙ length-tabulate n (generated_byte seed) in
-    omega (arith, h, few)
+-- an image has at most 64 pages of bytes
+size_fits : (pages word : ℕ) → 2 ≤ pages → pages ≤ 65 → size_by pages word ≤ 70656
+size_fits pages word some few = omega arith
 
-pub row_is : (name content made : List ℕ) (n pages seed word : ℕ) → name ≡ codes "trial" → ◌≡◌ {A = Result (List ℕ) LineFault} (Ok (generated n seed)) (Ok content) → n ≡ size_by pages word → row_of 1 1 name content ≡ row_by pages seed word
-row_is name content made n pages seed word named is size =
-    ap (λ (x : List ℕ). row_of 1 1 x content) named ∙ ap (λ (b : List ℕ). row_of 1 1 (codes "trial") b) (content_is content (generated n seed) is ∙ ap (λ (k : ℕ). generated k seed) size)
+pub content_fits : (content : List ℕ) (pages seed word : ℕ) → 2 ≤ pages → pages ≤ 65 → content ≡ generated (size_by pages word) seed → length content ≤ 1048576
+unfolding generated
+content_fits content pages seed word some few e =
+    let h : length content ≡ size_by pages word = ap length e ∙ length-tabulate (size_by pages word) (generated_byte seed) in
+    let low = size_fits pages word some few in
+    omega (arith, h, low)
+
+pub row_is : (name content : List ℕ) (pages seed word : ℕ) → name ≡ codes "trial" → content ≡ generated (size_by pages word) seed → row_of 1 1 name content ≡ row_by pages seed word
+row_is name content pages seed word named is = ap (λ (x : List ℕ). row_of 1 1 x content) named ∙ ap (λ (b : List ℕ). row_of 1 1 (codes "trial") b) is
 
 -- links are made one after the other
 pub linked_first : (motes : ℕ) (v : KeptWorld) → ((boards : List Device) (stores : List Store) (table : List Row) → length stores ≡ motes → motes ≤ length boards

@@ -38,7 +38,7 @@ beside_by false motes a e some low =
     let h : a + 1 ≢ motes = eqb-false (a + 1) motes e in
     (omega (arith, h, low), λ same. let x : a + 1 ≡ a = same in omega (arith, x))
 
-beside_fits : (motes a : ℕ) → 2 ≤ motes → a < motes → (beside motes a < motes) × (beside motes a ≢ a)
+pub beside_fits : (motes a : ℕ) → 2 ≤ motes → a < motes → (beside motes a < motes) × (beside motes a ≢ a)
 beside_fits motes a some low = beside_by (eqb (a + 1) motes) motes a refl some low
 
 hears_fit : (motes a w3 n : ℕ) → a < motes → StepInRange motes (uncut (Hear a 1 w3 (1 + n)))

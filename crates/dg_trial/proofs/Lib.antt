@@ -15,3 +15,4 @@ pub mod LineLemmas
 pub mod InjectionLemmas
 pub mod RestLemmas
 pub mod WholeLemmas
+pub mod RecordLemmas

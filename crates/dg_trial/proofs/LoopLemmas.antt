@@ -120,29 +120,17 @@ pub events_all : (all given left : List Event) (first kept : KeptWorld) (old now
 events_all all given left first kept old now s none =
     (subst (λ (xs : List Event). SoFar (map always xs) first kept old now) (sym (append-nil given) ∙ ap (λ (xs : List Event). given ++ xs) (sym none) ∙ s.parts) s.so_far).played
 
--- ---- five pieces, one after the other
+-- ---- three pieces, one after the other
 
-pub record Five (r i d s whole : List SchedulePart) : Type 0 where
-  pub first : [] ++ (r ++ (i ++ (d ++ (r ++ s)))) ≡ whole
-  pub second : r ++ (i ++ (d ++ (r ++ s))) ≡ whole
-  pub third : (r ++ i) ++ (d ++ (r ++ s)) ≡ whole
-  pub fourth : ((r ++ i) ++ d) ++ (r ++ s) ≡ whole
-  pub fifth : (((r ++ i) ++ d) ++ r) ++ (s ++ []) ≡ whole
-  pub all : (((r ++ i) ++ d) ++ r) ++ s ≡ whole
+pub record Three (a b c whole : List SchedulePart) : Type 0 where
+  pub first : a ++ (b ++ c) ≡ whole
+  pub last : (a ++ b) ++ (c ++ []) ≡ whole
+  pub all : (a ++ b) ++ c ≡ whole
 
-five : (r i d s whole : List SchedulePart) → (r ++ i) ++ (d ++ (r ++ s)) ≡ whole → Five r i d s whole
-five r i d s whole e =
-    let two : r ++ (i ++ (d ++ (r ++ s))) ≡ whole = sym (append_assoc r i (d ++ (r ++ s))) ∙ e in
-    let four : ((r ++ i) ++ d) ++ (r ++ s) ≡ whole = append_assoc (r ++ i) d (r ++ s) ∙ e in
-    let end : (((r ++ i) ++ d) ++ r) ++ s ≡ whole = append_assoc ((r ++ i) ++ d) r s ∙ four in
-    record {
-      first = two;
-      second = two;
-      third = e;
-      fourth = four;
-      fifth = ap (λ (xs : List SchedulePart). (((r ++ i) ++ d) ++ r) ++ xs) (append-nil s) ∙ end;
-      all = end;
-    }
+three : (a b c whole : List SchedulePart) → a ++ (b ++ c) ≡ whole → Three a b c whole
+three a b c whole e =
+    let end : (a ++ b) ++ c ≡ whole = append_assoc a b c ∙ e in
+    record { first = e; last = ap (λ (xs : List SchedulePart). (a ++ b) ++ xs) (append-nil c) ∙ end; all = end }
 
 resting_split : (front d : List SchedulePart) (xs ys : List Event) → front ++ (d ++ (map always xs ++ map always ys)) ≡ front ++ (d ++ map always (xs ++ ys))
 resting_split front d xs ys = ap (λ (ps : List SchedulePart). front ++ (d ++ ps)) (sym (map-append always xs ys))
@@ -151,11 +139,15 @@ resting_split front d xs ys = ap (λ (ps : List SchedulePart). front ++ (d ++ ps
 abbrev pub injected : List SchedulePart
 injected = always (Inject 0 1 1 0 0) ∷ []
 
--- the five pieces of a schedule whose disturbances have these draws, and whose sweeps have these events
-pub pieces : (motes : ℕ) (g : Lcg) (es : List Event) → Five (map always (resets motes)) injected (disturbances motes (100 * motes) g) (map always es) (opening motes ++ (disturbances motes (100 * motes) g ++ map always (resets motes ++ es)))
-pieces motes g es =
-    let d : List SchedulePart = disturbances motes (100 * motes) g in
-    five (map always (resets motes)) injected d (map always es) (opening motes ++ (d ++ map always (resets motes ++ es))) (resting_split (opening motes) d (resets motes) es)
+-- the resets, the injection and the disturbances with which a schedule begins
+pub disturbed_pieces : (motes : ℕ) (d : List SchedulePart) → Three (map always (resets motes)) injected d (opening motes ++ d)
+disturbed_pieces motes d = three (map always (resets motes)) injected d (opening motes ++ d) (sym (append_assoc (map always (resets motes)) injected d))
+
+-- these, and the resets and the events of the sweeps that follow them
+pub rested_pieces : (motes : ℕ) (d : List SchedulePart) (es : List Event) → Three (opening motes ++ d) (map always (resets motes)) (map always es) (opening motes ++ (d ++ map always (resets motes ++ es)))
+rested_pieces motes d es =
+    three (opening motes ++ d) (map always (resets motes)) (map always es) (opening motes ++ (d ++ map always (resets motes ++ es)))
+    (append_assoc (opening motes) d (map always (resets motes) ++ map always es) ∙ resting_split (opening motes) d (resets motes) es)
 
 pub played_so_far : (parts : List SchedulePart) (first kept : KeptWorld) (old now : List Device) → PartsPlay (Ok tt) parts first kept old now → SoFar parts first kept old now
 played_so_far parts first kept old now p = record { played = p }

@@ -14,12 +14,13 @@ use Rattle.dg_rules.specs.Sizes.{most_events}
 use Rattle.dg_rules.specs.World.{World, store_at, first_world}
 use Rattle.dg_rules.specs.Events.{does, mote_of, trail_of}
 use Rattle.dg_rules.specs.Steps.{WorldStep}
+use Rattle.dg_script.specs.Fitting.{FitsCut, FitsEvent}
 use Rattle.dg_script.specs.Ranges.{StepInRange}
 use Rattle.dg_rules.specs.Golden.{WorldKeepsGolden}
 use Rattle.dg_world.specs.Boards.{WorldStands, BoardStopped}
 use Rattle.dg_world.specs.Worlds.{IsWorld}
 use Rattle.dg_world.specs.declared.world.World.{World as KeptWorld}
-use Rattle.dg_trial.specs.Schedule.{SchedulePart, line_links}
+use Rattle.dg_trial.specs.Schedule.{SchedulePart, line_links, opening}
 use Rattle.dg_end.specs.declared.ends.End.{End}
 use Rattle.dg_end.specs.declared.ends.End.TheVariants as ends
 
@@ -29,6 +30,13 @@ use Rattle.dg_end.specs.declared.ends.End.TheVariants as ends
 unfoldable pub LeadsTo : World → List SchedulePart → World → Type 0
 LeadsTo w [] v = w ≡ v
 LeadsTo w (p ∷ ps) v = (u : World) × (reports : List Report) × WorldStep w (p (length w.sent)) u reports × LeadsTo u ps v
+
+-- So they may, part by part as these steps: each step is its part, after the frames that were sent before it.
+unfoldable pub LeadsBy : World → List SchedulePart → List Step → World → Type 0
+LeadsBy w [] [] v = w ≡ v
+LeadsBy w (p ∷ ps) (x ∷ xs) v =
+    (p (length w.sent) ≡ x) × (u : World) × (reports : List Report) × WorldStep w x u reports × LeadsBy u ps xs v
+LeadsBy w ps xs v = ⊥
 
 -- golden of a trial, and the chip that was formatted with it
 abbrev pub golden : Row
@@ -118,3 +126,39 @@ pub record MayPlayOver (motes : ℕ) (kept : KeptWorld) (boards : List Device) (
 abbrev pub PartsGoOnLaw : Type 0
 PartsGoOnLaw = (motes : ℕ) (w v : World) (xs ys : List SchedulePart) → MayPlayParts motes w (xs ++ ys) → LeadsTo w xs v
     → MayPlayParts motes v ys
+
+-- ---- steps that are recorded
+
+-- the numbers of a step are those that lines may have, for this many motes
+pub record FitsStep (motes : ℕ) (x : Step) : Type 0 where
+  pub event : FitsEvent motes x.event
+  pub cut : IfSome x.cut FitsCut
+
+-- Parts were played as these steps, and the boards, which were `initial` when the trial began, stand for the world then.
+pub record PartsPlayedBy (w : World) (parts : List SchedulePart) (steps : List Step) (kept : KeptWorld)
+    (initial now : List Device) : Type 0 where
+  pub world : World
+  pub run : LeadsBy w parts steps world
+  pub kept_now : IsWorld kept now world
+  pub boards : WorldStands world initial now
+
+-- Parts were played as these steps, from a kept world and boards to these, whatever world they stood for.
+pub record PartsRecorded (motes : ℕ) (parts : List SchedulePart) (steps : List Step) (first kept : KeptWorld)
+    (old now : List Device) : Type 0 where
+  pub fits : AllByRecursion (FitsStep motes) steps
+  pub plays : (w : World) (initial : List Device) → IsWorld first old w → WorldStands w initial old
+      → PartsPlayedBy w parts steps kept initial now
+
+-- The opening was played, and then these parts as these steps.
+pub record OpenedAndRecorded (motes : ℕ) (parts : List SchedulePart) (steps : List Step) (first kept : KeptWorld)
+    (old now : List Device) : Type 0 where
+  pub opened : KeptWorld
+  pub boards : List Device
+  pub opens : PartsPlay (Ok tt) (opening motes) first opened old boards
+  pub recorded : PartsRecorded motes parts steps opened kept boards now
+
+-- Steps were added to a record of steps, and P holds of them.
+pub record AddsSteps (before after : List Step) (P : List Step → Type 0) : Type 0 where
+  pub more : List Step
+  pub added : after ≡ before ++ more
+  pub holds : P more

@@ -1,12 +1,15 @@
 -- What a trial did, and what it reports (docs/COMMANDS.md, "Trial").
 use Rattle.std.specs.Prelude.{◌≡◌, ◌⊎◌, ℕ, ◌<◌, ◌≤◌, nat_le, Bool, false, List, [], ◌∷◌, ◌++◌, length, codes, slice_get, count_by}
-use Rattle.std.specs.Prelude.{Option, Some}
+use Rattle.std.specs.Prelude.{Option, Some, Result, Ok, Err}
+use Rattle.std.specs.List.{AllByRecursion}
 use Rattle.std.specs.Fmt.{decimal}
 use Rattle.dg_base.specs.Outside.{Puts, PutsPrefix}
 use Rattle.dg_base.specs.declared.answers.Status.{Status}
 use Rattle.dg_base.specs.declared.answers.Status.TheVariants.{Done, Memory, WriteFault, FlashFault, NoBoard}
 use Rattle.dg_nor.specs.Device.{Device}
-use Rattle.dg_object.specs.Object.{Row}
+use Rattle.dg_end.specs.declared.ends.End.{End}
+use Rattle.dg_end.specs.declared.ends.End.TheVariants as ends
+use Rattle.dg_object.specs.Object.{Row, row_of}
 use Rattle.dg_volume.specs.Store.{held, held_whole}
 use Rattle.dg_volume.specs.Stands.{Stands}
 use Rattle.dg_object.specs.Sizes.{most_pages}
@@ -17,9 +20,11 @@ use Rattle.dg_world.specs.Counts.{NoneRose}
 use Rattle.dg_world.specs.Formatted.{FirstBoards, FormatStops}
 use Rattle.dg_end.specs.Texts.{numbers, line}
 use Rattle.dg_outside.specs.Outside.{Outside}
-use Rattle.dg_trial.specs.Schedule.{SchedulePart, row_of_seed, schedule, sweep_count, event_count}
+use Rattle.dg_trial.specs.Schedule.{SchedulePart, line_links, row_of_seed, opening, shaking, schedule, sweep_count}
+use Rattle.dg_trial.specs.Schedule.{event_count}
+use Rattle.dg_trial.specs.declared.recording.TrialRecord.{TrialRecord}
 use Rattle.dg_world.specs.Boards.{WorldStands, BoardStopped}
-use Rattle.dg_trial.specs.Playing.{LeadsTo, first, chip, PartsBegun, StopsInPart}
+use Rattle.dg_trial.specs.Playing.{LeadsTo, LeadsBy, first, chip, PartsBegun, StopsInPart, FitsStep}
 
 -- ---- runs
 
@@ -144,3 +149,28 @@ TrialEnds FlashFault motes pages seed a b =
     (motes ≤ length a.boards) × TrialBoardStops motes pages seed a.boards b.boards × (b.output.written ≡ a.output.written)
 TrialEnds Memory motes pages seed a b = Unplayed motes pages seed a.boards b.boards × (b.output.written ≡ a.output.written)
 TrialEnds status motes pages seed a b = ⊥
+
+-- ---- a trial that is recorded
+
+-- A trial was played up to its last disturbance, and recorded: its links, its image, the disturbances as the steps that were
+-- played, and the number of its sweeps. The boards stand for the world after them.
+pub record TrialRecorded (motes pages seed : ℕ) (r : TrialRecord) (old new : List Device) : Type 0 where
+  pub links : r.links.items ≡ line_links motes
+  pub image : row_of 1 1 (codes "trial") r.content ≡ row_of_seed pages seed
+  pub sweeps : r.sweeps ≡ sweep_count motes pages
+  pub fits : AllByRecursion (FitsStep motes) r.disturbances.items
+  pub opened : World
+  pub last : World
+  pub opens : LeadsTo (trial_start motes pages seed) (opening motes) opened
+  pub shakes : LeadsBy opened (shaking motes seed) r.disturbances.items last
+  pub boards : WorldStands last old new
+
+-- How recording a trial ends: each answer has its cause.
+abbrev pub RecordEnds : Result TrialRecord End → (motes pages seed : ℕ) → (old new : List Device) → Type 0
+RecordEnds (Ok r) motes pages seed old new = TrialRecorded motes pages seed r old new
+RecordEnds (Err ends.Memory) motes pages seed old new = Unplayed motes pages seed old new
+RecordEnds (Err ends.FlashFault) motes pages seed old new =
+    (motes ≤ length old) × (StopsFormatting motes old new ⊎ Front motes pages seed (λ w left. StopsInPart w left old new))
+RecordEnds (Err (ends.NoBoard need have)) motes pages seed old new =
+    TrialLacksBoards motes old new × (need ≡ motes) × (have ≡ length old)
+RecordEnds (Err end) motes pages seed old new = ⊥

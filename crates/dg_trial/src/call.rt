@@ -13,19 +13,18 @@ ghost use Rattle.dg_world.specs.Boards.{WorldStands};
 ghost use Rattle.dg_trial.specs.Trials.{TrialRun, TrialEnds, TellsWhole};
 ghost use Rattle.dg_trial.specs.inner.Outcomes.{ScheduleEnds, TrialOutcome, TrialComesTo};
 
-use crate::beginning::{declare, format, line, linked};
+use crate::beginning::{Begun, begin};
 use crate::laws::trials_end_whole;
 use crate::playing::play;
 use crate::summary::{Summary, count_events, count_whole, line_of_summary};
 use dg_base::{Sink, Status};
 use dg_end::{End, answer};
 use dg_nor::Nor;
-use dg_seed::Draws;
 use dg_world::{FinishFault, World};
 use std::alloc::Global;
 
 /// How many sweeps end a trial: one for each page, and one for each link except the first.
-fn sweeps_of(motes: u8, pages: u8) -> u32
+pub fn sweeps_of(motes: u8, pages: u8) -> u32
     requires { 2 ≤ motes + pages }
     ensures { result ≡ sweep_count motes pages }
 {
@@ -47,12 +46,12 @@ fn play_schedule<N: Nor>(
     requires boards { motes ≤ length boards.old.items }
     ensures { ScheduleEnds result motes pages seed (map N.device boards.old.items) (map N.device boards.new.items) }
 {
-    let mut draws = Draws::of_seed(seed);
-    let word = draws.next();
-    let links = line(alloc, motes)?;
-    let mut world = linked(alloc, motes, &links)?;
-    format(boards, motes)?;
-    declare(alloc, &mut world, pages, seed, word)?;
+    let Begun {
+        word: _,
+        mut draws,
+        links,
+        mut world,
+    } = begin(alloc, motes, pages, seed, boards)?;
     play(
         alloc,
         &mut world,

@@ -10,7 +10,9 @@ mod call;
 mod disturbing;
 mod laws;
 mod playing;
+mod recording;
 mod summary;
 
 pub use call::trial;
 pub use laws::trials_end_whole;
+pub use recording::{TrialRecord, record_trial};

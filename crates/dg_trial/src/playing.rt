@@ -1,9 +1,9 @@
 //! Plays the parts of a schedule.
-ghost use Rattle.std.specs.Prelude.{◌≡◌, ◌+◌, ◌*◌, ◌<◌, ◌≤◌, ◌∷◌, ◌++◌, [], ℕ, map, length};
+ghost use Rattle.std.specs.Prelude.{◌≡◌, ◌+◌, ◌*◌, ◌<◌, ◌≤◌, ◌∷◌, ◌++◌, [], ℕ, map, length, OnOk};
 ghost use Rattle.dg_rounds.specs.Rounds.{times, sweep};
 ghost use Rattle.dg_seed.specs.Draws.{generator_of};
 ghost use Rattle.dg_trial.specs.Schedule.{SchedulePart, always, only, resets, opening, disturbances, drawn};
-ghost use Rattle.dg_trial.specs.Playing.{PartsPlay, MayPlayOver};
+ghost use Rattle.dg_trial.specs.Playing.{PartsPlay, PartsRecorded, OpenedAndRecorded, AddsSteps, MayPlayOver};
 ghost use Rattle.dg_rules.specs.Sizes.{most_motes};
 ghost use Rattle.dg_rules.specs.World.{World as RuleWorld};
 ghost use Rattle.dg_world.specs.Worlds.{IsWorld};
@@ -46,6 +46,33 @@ fn play_step<N: Nor>(
         Err(WorldFault::NotAVolume) => Err(End::NotAVolume),
         Err(WorldFault::NoImage) => Err(End::NoImage),
     }
+}
+
+/// Plays a step, and records it.
+fn record_step<N: Nor>(
+    world: &mut World,
+    step: Step,
+    boards: &mut Vec<N>,
+    reports: &mut Vec<Report>,
+    steps: &mut Vec<Step>,
+) -> Result<(), End>
+    requires { (motes : ℕ) × MayPlayOver motes world.old (map N.device boards.old.items) (only step) }
+    ensures played { (part : SchedulePart)
+        → ((w : RuleWorld) → IsWorld world.old (map N.device boards.old.items) w → part (length w.sent) ≡ step)
+        → PartsPlay result (part ∷ []) world.old world.new (map N.device boards.old.items) (map N.device boards.new.items) }
+    ensures recorded { OnOk result (steps.new.items ≡ steps.old.items ++ step ∷ []) }
+{
+    play_step(world, &step, boards, reports)?;
+    push_step(steps, step)?;
+    Ok(())
+}
+
+/// Adds a step to a record.
+fn push_step(steps: &mut Vec<Step>, step: Step) -> Result<(), AllocError>
+    ensures { OnOk result (steps.new.items ≡ steps.old.items ++ step ∷ []) }
+{
+    steps.push(step)?;
+    Ok(())
 }
 
 /// Plays an event whose power is not cut.
@@ -106,7 +133,7 @@ fn play_injection<N: Nor>(
     play_event(world, event, boards, reports)
 }
 
-/// Plays the disturbance that the next three draws choose.
+/// Plays the disturbance that the next three draws choose, and records it.
 fn play_disturbance<N: Nor>(
     alloc: Global,
     world: &mut World,
@@ -114,12 +141,16 @@ fn play_disturbance<N: Nor>(
     draws: &mut Draws,
     boards: &mut Vec<N>,
     reports: &mut Vec<Report>,
+    steps: &mut Vec<Step>,
 ) -> Result<(), End>
     requires may { MayPlayOver motes world.old (map N.device boards.old.items) (disturbances motes 1 (generator_of draws.old)) }
     requires some { 2 ≤ motes }
     requires few { motes ≤ most_motes }
     ensures played { PartsPlay result (disturbances motes 1 (generator_of draws.old)) world.old world.new
         (map N.device boards.old.items) (map N.device boards.new.items) }
+    ensures recorded { OnOk result (AddsSteps steps.old.items steps.new.items
+        (λ more. PartsRecorded motes (disturbances motes 1 (generator_of draws.old)) more world.old world.new
+        (map N.device boards.old.items) (map N.device boards.new.items))) }
     ensures drawn { generator_of draws.new ≡ drawn 1 (generator_of draws.old) }
 {
     let first = draws.next();
@@ -127,12 +158,12 @@ fn play_disturbance<N: Nor>(
     let third = draws.next();
     let sent = world.frames_sent();
     match disturbance(alloc, motes, sent, first, second, third) {
-        Ok(step) => play_step(world, &step, boards, reports),
+        Ok(step) => record_step(world, step, boards, reports, steps),
         Err(AllocError) => Err(End::Memory),
     }
 }
 
-/// Plays the disturbances of a seed.
+/// Plays the disturbances of a seed, and records them.
 fn play_disturbances<N: Nor>(
     alloc: Global,
     world: &mut World,
@@ -140,18 +171,50 @@ fn play_disturbances<N: Nor>(
     draws: &mut Draws,
     boards: &mut Vec<N>,
     reports: &mut Vec<Report>,
+    steps: &mut Vec<Step>,
 ) -> Result<(), End>
     requires may { MayPlayOver motes world.old (map N.device boards.old.items)
         (disturbances motes (100 * motes) (generator_of draws.old)) }
     requires some { 2 ≤ motes }
     requires few { motes ≤ most_motes }
-    ensures { PartsPlay result (disturbances motes (100 * motes) (generator_of draws.old)) world.old world.new
+    ensures played { PartsPlay result (disturbances motes (100 * motes) (generator_of draws.old)) world.old world.new
         (map N.device boards.old.items) (map N.device boards.new.items) }
+    ensures recorded { OnOk result (AddsSteps steps.old.items steps.new.items
+        (λ more. PartsRecorded motes (disturbances motes (100 * motes) (generator_of draws.old)) more world.old world.new
+        (map N.device boards.old.items) (map N.device boards.new.items))) }
 {
     what_is_left_may_be_played();
     for _ in 0..DISTURBANCES * u32::from(motes) {
-        play_disturbance(alloc, world, motes, draws, boards, reports)?;
+        play_disturbance(alloc, world, motes, draws, boards, reports, steps)?;
     }
+    Ok(())
+}
+
+/// Plays a schedule up to its last disturbance: starts each mote, injects the image, and plays the disturbances, which are
+/// recorded.
+pub fn play_disturbed<N: Nor>(
+    alloc: Global,
+    world: &mut World,
+    motes: u8,
+    draws: &mut Draws,
+    boards: &mut Vec<N>,
+    reports: &mut Vec<Report>,
+    steps: &mut Vec<Step>,
+) -> Result<(), End>
+    requires may { MayPlayOver motes world.old (map N.device boards.old.items)
+        (opening motes ++ disturbances motes (100 * motes) (generator_of draws.old)) }
+    requires some { 2 ≤ motes }
+    requires few { motes ≤ most_motes }
+    ensures played { PartsPlay result (opening motes ++ disturbances motes (100 * motes) (generator_of draws.old)) world.old
+        world.new (map N.device boards.old.items) (map N.device boards.new.items) }
+    ensures recorded { OnOk result (AddsSteps steps.old.items steps.new.items
+        (λ more. OpenedAndRecorded motes (disturbances motes (100 * motes) (generator_of draws.old)) more world.old world.new
+        (map N.device boards.old.items) (map N.device boards.new.items))) }
+{
+    what_is_left_may_be_played();
+    play_resets(world, motes, boards, reports)?;
+    play_injection(world, boards, reports)?;
+    play_disturbances(alloc, world, motes, draws, boards, reports, steps)?;
     Ok(())
 }
 
@@ -214,9 +277,8 @@ pub fn play<N: Nor>(
 {
     what_is_left_may_be_played();
     let mut reports = Vec::new(alloc);
-    play_resets(world, motes, boards, &mut reports)?;
-    play_injection(world, boards, &mut reports)?;
-    play_disturbances(alloc, world, motes, draws, boards, &mut reports)?;
+    let mut steps = Vec::new(alloc);
+    play_disturbed(alloc, world, motes, draws, boards, &mut reports, &mut steps)?;
     play_resets(world, motes, boards, &mut reports)?;
     play_sweeps(world, links, sweeps, boards, &mut reports)?;
     Ok(())

@@ -8,16 +8,33 @@ use Rattle.dg_world.specs.declared.world.World.{World as KeptWorld}
 use Rattle.dg_end.specs.Lines.{Outcome}
 use Rattle.dg_end.specs.declared.ends.End.{End}
 use Rattle.dg_end.specs.declared.ends.End.TheVariants as ends
-use Rattle.dg_trial.specs.Schedule.{row_of_seed, sweep_count}
+use Rattle.rand_pcg.specs.Pcg.{pcg32}
+use Rattle.dg_seed.specs.Draws.{first_generator, generator_of}
+use Rattle.dg_trial.specs.Schedule.{line_links, row_of_seed, sweep_count}
 use Rattle.dg_trial.specs.Playing.{StopsInPart}
 use Rattle.dg_trial.specs.Trials.{TrialRun, TrialPlayed, Formatted, StopsFormatting, Front, Unplayed, TrialBoardStops}
+use Rattle.dg_trial.specs.Trials.{trial_start}
 use Rattle.dg_trial.specs.Trials.{TrialLacksBoards, trial_text, wholes}
+use Rattle.dg_trial.specs.declared.beginning.Begun.{Begun}
 use Rattle.dg_trial.specs.declared.summary.Summary.{Summary}
 
 abbrev pub FormatEnds : Result (Unit {0}) End → (motes : ℕ) → (old new : List Device) → Type 0
 FormatEnds (Ok u) motes old new = Formatted motes old new
 FormatEnds (Err ends.FlashFault) motes old new = StopsFormatting motes old new
 FormatEnds (Err end) motes old new = ⊥
+
+-- The boards were formatted, and stand for the world in which the trial begins. One word was drawn.
+pub record TrialBegun (motes pages seed : ℕ) (b : Begun) (old new : List Device) : Type 0 where
+  pub word : (b.word, generator_of b.draws) ≡ pcg32 (first_generator seed)
+  pub links : b.links.items ≡ line_links motes
+  pub formatted : Formatted motes old new
+  pub is : IsWorld b.world new (trial_start motes pages seed)
+
+abbrev pub BeginEnds : Result Begun End → (motes pages seed : ℕ) → (old new : List Device) → Type 0
+BeginEnds (Ok b) motes pages seed old new = TrialBegun motes pages seed b old new
+BeginEnds (Err ends.Memory) motes pages seed old new = Unplayed motes pages seed old new
+BeginEnds (Err ends.FlashFault) motes pages seed old new = StopsFormatting motes old new
+BeginEnds (Err end) motes pages seed old new = ⊥
 
 -- the whole schedule was played, and the boards, which were `old` before it, stand for the world at its end
 pub record SchedulePlayed (motes pages seed : ℕ) (kept : KeptWorld) (old new : List Device) : Type 0 where
