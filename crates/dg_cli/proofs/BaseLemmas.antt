@@ -13,7 +13,7 @@ use Rattle.dg_end.specs.declared.ends.End.{End}
 use Rattle.dg_end.specs.declared.ends.End.TheVariants as ends
 use Rattle.dg_end.proofs.AnswerLemmas.{written_status}
 use Rattle.dg_serial_base.specs.BaseEvents.{Base}
-use Rattle.dg_serial_base.specs.Based.{BaseEndsBy, RefusedBy, Based}
+use Rattle.dg_serial_base.specs.Based.{BaseEndsBy, RefusedBy, BaseLine, Based, Refused, BaseCauses}
 use Rattle.dg_serial_base.specs.Done.{BasedOn}
 use Rattle.dg_cli.specs.Words.{TextDone}
 use Rattle.dg_cli.specs.Basing.{BasedOver}
@@ -28,6 +28,56 @@ pub over_first : {N : Type 0} (f : N → Device) (items : List N) (x y : N) (bas
     → BasedOn base status (f (get_or items 0 x)) (f y) a b → BasedOver base status a b (map f items) (map f (set items 0 y))
 over_first f [] x y base status a b some h = absurd (omega (arith, some))
 over_first f (z ∷ zs) x y base status a b some h = (h, refl)
+
+-- ---- whatever the boards are
+
+abbrev line_over : (outcome : Result (Unit {0}) End) (base : Base) (s : Store) (old new : Device) (x y : Outside) (c d e f : List Device)
+    → BaseLine outcome base s old new (record x { boards = c }) (record y { boards = d }) → BaseLine outcome base s old new (record x { boards = e }) (record y { boards = f })
+line_over outcome base s old new x y c d e f h = record {
+  input = h.input;
+  taken = h.taken;
+  few = h.few;
+  text = h.text;
+  put = h.put;
+  by = h.by;
+  whole = h.whole;
+}
+
+abbrev based_over : (status : Status) (base : Base) (s : Store) (old new : Device) (x y : Outside) (c d e f : List Device)
+    → Based status base s old new (record x { boards = c }) (record y { boards = d }) → Based status base s old new (record x { boards = e }) (record y { boards = f })
+based_over status base s old new x y c d e f h = record {
+  outcome = h.outcome;
+  between = h.between;
+  line = line_over h.outcome base s old new x (record y { output = h.between }) c d e f h.line;
+  told = h.told;
+}
+
+refused_over : (status : Status) (old new : Device) (x y : Outside) (c d e f : List Device)
+    → Refused status old new (record x { boards = c }) (record y { boards = d }) → Refused status old new (record x { boards = e }) (record y { boards = f })
+refused_over status old new x y c d e f h = record { unread = h.unread; outcome = h.outcome; by = h.by; told = h.told; room = h.room }
+
+causes_over : (status : Status) (old new : Device) (x y : Outside) (c d e f : List Device)
+    → BaseCauses status old new (record x { boards = c }) (record y { boards = d }) → BaseCauses status old new (record x { boards = e }) (record y { boards = f })
+causes_over status old new x y c d e f h = record {
+  reads = h.reads;
+  writes = h.writes;
+  read_fault = h.read_fault;
+  unread = h.unread;
+  write_fault = h.write_fault;
+  written = h.written;
+  flash_fault = h.flash_fault;
+  calm = h.calm;
+}
+
+pub based_on_over : (base : Base) (status : Status) (old new : Device) (x y : Outside) (c d e f : List Device)
+    → BasedOn base status old new (record x { boards = c }) (record y { boards = d }) → BasedOn base status old new (record x { boards = e }) (record y { boards = f })
+based_on_over base status old new x y c d e f h = record {
+  based = λ s stands. based_over status base s old new x y c d e f (h.based s stands);
+  refused = λ none. refused_over status old new x y c d e f (h.refused none);
+  causes = causes_over status old new x y c d e f h.causes;
+  agrees = λ s table z. h.agrees s table (based_over status base s old new x y e f c d z);
+  consistent = λ s golden z. h.consistent s golden (based_over status base s old new x y e f c d z);
+}
 
 -- ---- it never ends by a fault of the link
 

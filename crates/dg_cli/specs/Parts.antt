@@ -11,4 +11,3 @@ around_of a = record {
   writes = a.output.writes;
   boards = a.boards;
 }
-
