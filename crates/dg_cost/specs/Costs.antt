@@ -1,24 +1,51 @@
 -- All that is promised of a replay that writes what it costs (docs/COMMANDS.md, "What a script costs").
-use Rattle.std.specs.Prelude.{◌≡◌, ◌⊎◌, ℕ, List, [], Some}
+use Rattle.std.specs.Prelude.{◌≡◌, ◌≢◌, ◌⊎◌, ℕ, List, [], Some, None, Option, length, slice_get}
 use Rattle.dg_words.specs.Counts.{Rose}
 use Rattle.dg_base.specs.Outside.{Puts, PutsPrefix}
 use Rattle.dg_base.specs.declared.answers.Status.{Status}
-use Rattle.dg_base.specs.declared.answers.Status.TheVariants.{Memory, WriteFault}
+use Rattle.dg_base.specs.declared.answers.Status.TheVariants.{Memory, WriteFault, NoImage}
 use Rattle.dg_nor.specs.Device.{Device}
+use Rattle.dg_object.specs.Object.{Row}
+use Rattle.dg_script.specs.Script.{Script}
 use Rattle.dg_replay.specs.Around.{Around, around}
 use Rattle.dg_replay.specs.Done.{ReplayDone}
+use Rattle.dg_replay.specs.Items.{beginning_of}
+use Rattle.dg_replay.specs.Shown.{stores_in, events_played}
+use Rattle.dg_replay.specs.Replayed.{Progress, Replayed}
 use Rattle.dg_cost_text.specs.Csv.{csv}
+use Rattle.dg_cost_text.specs.Table.{table_of_rows}
 use Rattle.dg_cost_text.specs.Timed.{IsStampedReport}
 use Rattle.dg_cost_text.specs.declared.rows.Counted.{Counted}
+use Rattle.dg_cost_text.specs.declared.rows.Rows.{Rows}
+use Rattle.dg_count.specs.declared.place.EventPlace.{EventPlace}
+use Rattle.dg_cost.specs.EventRows.{HasRows, HasEvents}
+use Rattle.dg_cost.specs.TimeRows.{time_rows, moment_rows}
 use Rattle.dg_cost.specs.declared.call.Form.{Form}
 use Rattle.dg_cost.specs.declared.call.Form.TheVariants.{Table, Csv, Json, Timed}
 
--- the text that is written in this form, after a replay that wrote this report
-abbrev pub IsText : Form → (report text : List ℕ) → Type 0
-IsText (Table model) report text = Unit {0}
-IsText Csv report text = (counted : Counted) × (text ≡ csv counted)
-IsText (Json model) report text = Unit {0}
-IsText Timed report text = IsStampedReport report text
+-- The counts of a replay that ended with this status: a table for each mote whose board was used, with the rows of the events
+-- that were played there. Where the replay ended since an event found no image to start, that event counts by its kind.
+pub record CountsRun {table : List Row} {script : Script} (ran : Status) (came : Progress table script)
+    (counted : Counted) : Type 0 where
+  pub motes : length counted.motes.items ≡ length (stores_in (beginning_of came.ground came.done).world)
+  pub ended : Option EventPlace
+  pub whole : ran ≢ NoImage → ended ≡ None
+  pub last : ended ≡ None → HasRows (moment_rows came.played) (table_of_rows counted.all)
+  pub times : ended ≡ None → (m : ℕ) (rows : Rows) → slice_get counted.motes.items m ≡ Some rows
+      → HasRows (time_rows m (events_played came.played)) (table_of_rows rows)
+  pub each : (m : ℕ) (rows : Rows) → slice_get counted.motes.items m ≡ Some rows
+      → HasEvents ended m came.played (table_of_rows rows)
+
+-- whichever table the boards are checked against, these are the counts of that replay
+abbrev pub CountsReplay : (ran : Status) → (a b : Around) → Counted → Type 0
+CountsReplay ran a b counted = (table : List Row) → (x : Replayed table ran a b) × CountsRun ran x.came counted
+
+-- the text that is written in this form, after a replay that wrote this report, with counts of that replay
+abbrev pub IsText : Form → (counts : Counted → Type 0) → (report text : List ℕ) → Type 0
+IsText (Table model) counts report text = Unit {0}
+IsText Csv counts report text = (counted : Counted) × (text ≡ csv counted) × counts counted
+IsText (Json model) counts report text = Unit {0}
+IsText Timed counts report text = IsStampedReport report text
 
 -- The text was written, and the status is that of the replay; or a prefix of it, since a write failed.
 abbrev pub CostWrote : (ran status : Status) → (text : List ℕ) → (a b : Around) → Type 0
@@ -34,7 +61,8 @@ pub record Rehearsed (asked : Form) (status : Status) (a b : Around) : Type 0 wh
   pub after : List Device
   pub replayed : ReplayDone ran (around a.left a.reads (Some []) 0 before) (around b.left b.reads (Some report) faults after)
   pub text : List ℕ
-  pub is_text : IsText asked report text
+  pub is_text : IsText asked
+      (CountsReplay ran (around a.left a.reads (Some []) 0 before) (around b.left b.reads (Some report) faults after)) report text
   pub wrote : CostWrote ran status text a b
 
 -- the cost is written, unless memory runs out

@@ -1,1 +1,4 @@
+pub mod EventRows
+pub mod TimeRows
+pub mod Counting
 pub mod Costs

@@ -3,6 +3,7 @@ ghost use Rattle.std.specs.Prelude.{◌≡◌, ◌≤◌, map, IfOk};
 ghost use Rattle.dg_meter.specs.Meters.{metered_device};
 ghost use Rattle.dg_replay.specs.Around.{around};
 ghost use Rattle.dg_cost.specs.Costs.{CostDone, IsText};
+ghost use Rattle.dg_cost.specs.Counting.{IsCountOf};
 ghost use Rattle.dg_cost_text.specs.Csv.{csv};
 ghost use Rattle.dg_cost_text.specs.declared.rows.Counted.{Counted};
 
@@ -106,7 +107,7 @@ fn look_again<N: Nor>(costs: &mut Costs, boards: &mut Vec<Metered<N>>) {
 
 /// The counts as rows of comma-separated values.
 fn csv_of(alloc: Global, counter: &Counter, status: Status) -> Result<Vec<u8>, AllocError>
-    ensures { IfOk result (λ text. (counted : Counted) × (text.items ≡ csv counted)) }
+    ensures { IfOk result (λ text. (counted : Counted) × (text.items ≡ csv counted) × IsCountOf counter.now status counted) }
 {
     let counted = counted(alloc, counter, status)?;
     let text = csv_text(alloc, &counted)?;
@@ -121,7 +122,7 @@ fn text_of(
     report: &[u8],
     status: Status,
 ) -> Result<Vec<u8>, AllocError>
-    ensures { IfOk result (λ text. IsText asked.now report.now text.items) }
+    ensures { IfOk result (λ text. IsText asked.now (IsCountOf counter.now status) report.now text.items) }
 {
     match asked {
         Form::Timed => timed_text(

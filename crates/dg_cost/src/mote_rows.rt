@@ -1,4 +1,12 @@
 //! What was counted of motes, and of all, as rows.
+ghost use Rattle.std.specs.Prelude.{◌≡◌, ◌≢◌, ◌++◌, ℕ, IfOk, OnOk, if◌then◌else◌, length, slice_get, slice_index_or};
+ghost use Rattle.dg_cost_text.specs.Table.{table_of_rows};
+ghost use Rattle.dg_cost_text.specs.declared.rows.Rows.{Rows};
+ghost use Rattle.dg_count.specs.Ended.{counts_at};
+ghost use Rattle.dg_cost.specs.Counting.{IsCountOf};
+ghost use Rattle.dg_events.specs.Uptimes.{never_on};
+ghost use Rattle.dg_cost.specs.EventRows.{rows_of_events, rows_of_starts, rows_of_images, HasCounts, HasRows};
+ghost use Rattle.dg_cost.specs.TimeRows.{rows_of_power, rows_of_moment};
 
 use crate::flash_rows::{push_chip, with_flash};
 use crate::moment_rows::{push_all_moments, push_wholes};
@@ -25,12 +33,17 @@ fn push_neighbours(rows: &mut Rows, cost: &MoteCost) -> Result<(), AllocError> {
 }
 
 /// 1 for a mote that is off.
-fn off_end(on: bool) -> u64 {
+fn off_end(on: bool) -> u64
+    ensures { result ≡ (if on then 0 else 1) }
+{
     if on { 0 } else { 1 }
 }
 
 /// How long a mote was on up to this moment, and how long it was off.
-fn push_power(rows: &mut Rows, uptime: &Uptime, ms: u64) -> Result<(), AllocError> {
+#[tactic(auto, using(std::proofs::lemmas::List::append_assoc))]
+fn push_power(rows: &mut Rows, uptime: &Uptime, ms: u64) -> Result<(), AllocError>
+    ensures { OnOk result (table_of_rows rows.new ≡ table_of_rows rows.old ++ rows_of_power uptime.now ms) }
+{
     let on = uptime.until(ms);
     rows.sum("on.ms", on)?;
     rows.sum("off.ms", ms.saturating_sub(on))?;
@@ -39,7 +52,11 @@ fn push_power(rows: &mut Rows, uptime: &Uptime, ms: u64) -> Result<(), AllocErro
 }
 
 /// The events at a mote, refused ones by cause, and cuts.
-fn push_events(rows: &mut Rows, events: &EventCounts) -> Result<(), AllocError> {
+#[tactic(auto, using(std::proofs::lemmas::List::append_assoc))]
+fn push_events(rows: &mut Rows, events: &EventCounts) -> Result<(), AllocError>
+    ensures { OnOk result (table_of_rows rows.new ≡ table_of_rows rows.old
+        ++ rows_of_events events.now.events events.now.refused events.now.cuts) }
+{
     rows.each("events.", &EVENTS, &events.events, "")?;
     rows.each("refused.event.", &CAUSES, &events.refused, "")?;
     rows.sum("cuts", events.cuts)?;
@@ -82,7 +99,11 @@ fn push_packets(rows: &mut Rows, cost: &MoteCost, by: &SentBy) -> Result<(), All
 }
 
 /// The starts of a mote, by what caused them.
-fn push_starts(rows: &mut Rows, events: &EventCounts) -> Result<(), AllocError> {
+#[tactic(auto, using(std::proofs::lemmas::List::append_assoc))]
+fn push_starts(rows: &mut Rows, events: &EventCounts) -> Result<(), AllocError>
+    ensures { OnOk result (table_of_rows rows.new ≡ table_of_rows rows.old
+        ++ rows_of_starts events.now.by_power events.now.by_order events.now.cut_by_power) }
+{
     rows.sum("starts.power", events.by_power)?;
     rows.sum("starts.order", events.by_order)?;
     rows.sum("starts.cut.power", events.cut_by_power)?;
@@ -90,7 +111,9 @@ fn push_starts(rows: &mut Rows, events: &EventCounts) -> Result<(), AllocError> 
 }
 
 /// The starts of a mote, by the image that then runs.
-fn push_images(rows: &mut Rows, events: &EventCounts) -> Result<(), AllocError> {
+fn push_images(rows: &mut Rows, events: &EventCounts) -> Result<(), AllocError>
+    ensures { OnOk result (table_of_rows rows.new ≡ table_of_rows rows.old ++ rows_of_images events.now.of_image) }
+{
     let images = ["0", "1", "2", "3", "4", "5", "6"];
     rows.each("starts.image.", &images, &events.of_image, "")?;
     Ok(())
@@ -137,7 +160,10 @@ fn mote_rows(
     uptime: &Uptime,
     ms: u64,
     moments: &Moments,
-) -> Result<Rows, AllocError> {
+) -> Result<Rows, AllocError>
+    ensures counts { IfOk result (λ rows. HasCounts events.now (table_of_rows rows)) }
+    ensures power { IfOk result (λ rows. HasRows (rows_of_power uptime.now ms) (table_of_rows rows)) }
+{
     let mut rows = Rows::new(alloc);
     push_power(&mut rows, uptime, ms)?;
     push_events(&mut rows, events)?;
@@ -203,7 +229,10 @@ fn summed_rows(
 }
 
 /// How many events there were, and the moment of the last one.
-fn push_moment(all: &mut Rows, last: Moment) -> Result<(), AllocError> {
+#[tactic(auto, using(std::proofs::lemmas::List::append_assoc))]
+fn push_moment(all: &mut Rows, last: Moment) -> Result<(), AllocError>
+    ensures { OnOk result (table_of_rows all.new ≡ table_of_rows all.old ++ rows_of_moment last.event last.ms) }
+{
     all.own("run.events", last.event)?;
     all.own("run.ms", last.ms)?;
     Ok(())
@@ -217,7 +246,9 @@ fn all_rows(
     by: &[SentBy],
     last: Moment,
     status: Status,
-) -> Result<Rows, AllocError> {
+) -> Result<Rows, AllocError>
+    ensures { IfOk result (λ all. HasRows (rows_of_moment last.event last.ms) (table_of_rows all)) }
+{
     let mut all = summed_rows(alloc, motes, counter, by)?;
     push_moment(&mut all, last)?;
     all.own("run.status", u64::from(status.code()))?;
@@ -225,7 +256,9 @@ fn all_rows(
 }
 
 /// The event that found no image to start, where a run ended so.
-pub fn ended_event(counter: &Counter, status: Status) -> Option<EventPlace> {
+pub fn ended_event(counter: &Counter, status: Status) -> Option<EventPlace>
+    ensures { status ≢ Status.NoImage → result ≡ None }
+{
     match status {
         Status::NoImage => counter.costs.ended,
         _ => None,
@@ -239,7 +272,13 @@ fn rows_of_motes(
     ended: Option<EventPlace>,
     times: &Uptimes,
     by: &[SentBy],
-) -> Result<Vec<Rows>, AllocError> {
+) -> Result<Vec<Rows>, AllocError>
+    ensures length { IfOk result (λ motes. length motes.items ≡ counter.now.placed) }
+    ensures each { IfOk result (λ motes. (m : ℕ) (rows : Rows) → slice_get motes.items m ≡ Some rows
+        → HasCounts (counts_at ended counter.now.events m) (table_of_rows rows)) }
+    ensures power { IfOk result (λ motes. (m : ℕ) (rows : Rows) → slice_get motes.items m ≡ Some rows
+        → HasRows (rows_of_power (slice_index_or times.now.motes m never_on) times.now.ms) (table_of_rows rows)) }
+{
     let mut motes = Vec::new(alloc);
     for mote in 0..usize::from(counter.placed) {
         let cost = counter.costs.of(mote);
@@ -264,7 +303,9 @@ fn rows_of_motes(
 }
 
 /// What was counted of a run that ended with this status.
-pub fn counted(alloc: Global, counter: &Counter, status: Status) -> Result<Counted, AllocError> {
+pub fn counted(alloc: Global, counter: &Counter, status: Status) -> Result<Counted, AllocError>
+    ensures { IfOk result (λ counted. IsCountOf counter.now status counted) }
+{
     let by = counter
         .costs
         .frames

@@ -1,0 +1,241 @@
+-- The rows of a counter are those of the run that it counted.
+use Rattle.std.proofs.Common.{◌≡◌, ◌≢◌, ℕ, ◌+◌, ◌*◌, ◌-◌, ◌%◌, ◌^◌, ◌<◌, ◌≤◌, ◌==◌, Bool, true, false, cond, List, [], ◌∷◌, ◌++◌, length, map, get_or, set, refl, sym, ap, subst, ◌∙◌, arith}
+use Rattle.std.proofs.Common.{zero, suc, Option, Some, None, inl, inr}
+use Rattle.std.specs.Prelude.{slice_get, slice_index, slice_index_or}
+use Rattle.std.specs.List.{range_with_len}
+use Rattle.std.proofs.lemmas.Nat.{mod-mul-add}
+use Rattle.std.proofs.lemmas.Bool.{cases_lt, both_ways}
+use Rattle.std.proofs.lemmas.List.Sums.{sum_by-cons}
+use Rattle.std.proofs.lemmas.List.{get_or_past}
+use Rattle.std.proofs.lemmas.List.FromFn.{fill_by_all, get_or-map-range_with_len, length-map-range_with_len}
+use Rattle.dg_object.specs.Object.{Row}
+use Rattle.dg_script.specs.Script.{Script}
+use Rattle.dg_rules.specs.Sizes.{most_motes, most_events}
+use Rattle.dg_rules.specs.Runs.{Played}
+use Rattle.dg_replay.specs.Items.{beginning_of}
+use Rattle.dg_replay.specs.Items.{is_event}
+use Rattle.dg_replay.specs.Shown.{stores_in, events_played}
+use Rattle.dg_script.specs.Items.{Item, Declares, Applies}
+use Rattle.dg_nor.specs.Device.{Device}
+use Rattle.dg_replay.specs.Around.{Around, around}
+use Rattle.dg_replay.specs.Done.{ReplayDone}
+use Rattle.dg_replay.specs.Replayed.{Progress, Replayed}
+use Rattle.dg_base.specs.declared.answers.Status.{Status}
+use Rattle.dg_events.specs.Told.{Happened}
+use Rattle.dg_events.specs.Uptimes.{ms_before, ms_of, on_ms_of, ends_on, never_on, IsUptime}
+use Rattle.dg_events.specs.declared.uptime.Uptime.{Uptime}
+use Rattle.dg_cost.specs.TimeRows.{rows_of_times, rows_of_power, rows_of_moment, time_rows, moment_rows}
+use Rattle.dg_events.specs.Counts.{count_all, count_at, has_kind, is_refused, is_cut, is_start_by_power, is_start_by_order, is_cut_start_by_power, is_start_of}
+use Rattle.dg_events.specs.Counters.{as_u64, told_count, AreCounts, CountsAre, AllCounted, HasCounted, no_counts}
+use Rattle.dg_events.specs.Noted.{up, up_at}
+use Rattle.dg_events.specs.declared.event_counts.EventCounts.{EventCounts}
+use Rattle.dg_events.specs.declared.event_counter.EventCounter.{EventCounter}
+use Rattle.dg_cost_text.specs.Table.{table_of_rows}
+use Rattle.dg_cost_text.specs.declared.rows.Counted.{Counted}
+use Rattle.dg_cost_text.specs.declared.rows.Rows.{Rows}
+use Rattle.dg_count.specs.Ended.{with_ended, counts_at}
+use Rattle.dg_count.specs.Runs.{CountedRun, CountedReplay}
+use Rattle.dg_count.specs.declared.costs.Costs.{Costs}
+use Rattle.dg_count.specs.declared.counter.Counter.{Counter}
+use Rattle.dg_count.specs.declared.place.EventPlace.{EventPlace}
+use Rattle.dg_cost.specs.EventRows.{HasRows, HasCounts, HasEvents, rows_of_events, rows_of_starts, rows_of_images, counts_of, and_ended, event_rows, start_rows, image_rows}
+use Rattle.dg_cost.specs.Counting.{IsCountOf}
+use Rattle.dg_cost.specs.Costs.{CountsRun, CountsReplay, IsText, CostWrote, Rehearsed}
+use Rattle.dg_cost.specs.declared.call.Form.{Form}
+use Rattle.dg_cost.specs.declared.call.Form.TheVariants.{Table, Csv, Json, Timed}
+
+-- ---- the counts of a mote
+
+none_some : {A : Type 0} (x : A) → None ≡ Some x → ⊥
+none_some x e = cc
+
+get_there : {A : Type 0} (xs : List A) (i : ℕ) (d : A) → i < length xs → slice_get xs i ≡ Some (get_or xs i d)
+get_there [] i d lt = absurd (omega arith)
+get_there (x ∷ xs) zero d lt = refl
+get_there (x ∷ xs) (suc i) d lt = get_there xs i d (omega arith)
+
+get_within : {A : Type 0} (xs : List A) (i : ℕ) (x : A) → slice_get xs i ≡ Some x → i < length xs
+get_within [] i x there = absurd (none_some x there)
+get_within (y ∷ xs) zero x there = omega arith
+get_within (y ∷ xs) (suc i) x there = let h = get_within xs i x there in omega arith
+
+listed : (c : EventCounter) (played : List Played) (m : ℕ) (tests : ℕ → Happened → Bool) (kinds : ℕ) (xs : List ℕ) → CountedRun c played
+    → AreCounts m tests played kinds xs → xs ≡ counts_of m tests kinds played
+listed c played m tests kinds xs run are =
+    fill_by_all (λ (k : ℕ). count_at m (tests k) played) xs kinds 0 are.long (λ k lt. are.each k lt ∙ run.exact m (tests k))
+
+below_end : (n w : ℕ) → n < w → n % w ≡ n
+below_end n w lt = let is : n ≡ 0 * w + n = omega arith in ap (λ (j : ℕ). j % w) is ∙ mod-mul-add 0 w n lt
+
+up_small : (n : ℕ) → n ≤ most_events → up n ≡ n + 1
+up_small n few = below_end (n + 1) (2 ^ 64) (omega (arith, few))
+
+counted_few : (c : EventCounter) (played : List Played) (m k : ℕ) → CountedRun c played → slice_index (counts_of m has_kind 7 played) k ≤ most_events
+counted_few c played m k run = elim (cases_lt k 7) [
+  | inl lt ↦
+      subst (λ (n : ℕ). n ≤ most_events) (sym (get_or-map-range_with_len (λ (j : ℕ). count_at m (has_kind j) played) 0 7 k k 0 lt (omega arith)))
+      (run.few m (has_kind k))
+  | inr ge ↦
+      let far : slice_index (counts_of m has_kind 7 played) k ≡ 0 = get_or_past (counts_of m has_kind 7 played) k 0
+      (omega (arith, ge, length-map-range_with_len (λ (j : ℕ). count_at m (has_kind j) played) 0 7)) in
+      omega (arith, far)
+]
+
+-- ---- with the event that ended the run
+
+ended_events : (e : EventCounter) (ended : Option EventPlace) (m : ℕ) (played : List Played) (c : EventCounts) → CountedRun e played
+    → c.events ≡ counts_of m has_kind 7 played → (with_ended ended m c).events ≡ and_ended ended m (counts_of m has_kind 7 played)
+ended_events e None m played c run is = is
+ended_events e (Some place) m played c run is = by (place.mote == m)
+  where
+    all : List ℕ
+    all = counts_of m has_kind 7 played
+
+    by : (b : Bool) → (cond b (record c { events = up_at place.kind c.events }) c).events ≡ cond b (set all place.kind (slice_index all place.kind + 1)) all
+    by true =
+        ap (λ (xs : List ℕ). up_at place.kind xs) is
+        ∙ ap (λ (n : ℕ). set all place.kind n) (up_small (slice_index all place.kind) (counted_few e played m place.kind run))
+    by false = is
+
+-- all other counts are as before
+abbrev Rest : (a b : EventCounts) → Type 0
+Rest a b = (a.refused ≡ b.refused) × (a.cuts ≡ b.cuts) × (a.by_power ≡ b.by_power) × (a.by_order ≡ b.by_order)
+    × (a.cut_by_power ≡ b.cut_by_power) × (a.of_image ≡ b.of_image)
+
+ended_rest : (ended : Option EventPlace) (m : ℕ) (c : EventCounts) → Rest (with_ended ended m c) c
+ended_rest None m c = (refl, refl, refl, refl, refl, refl)
+ended_rest (Some place) m c = by (place.mote == m)
+  where
+    by : (b : Bool) → Rest (cond b (record c { events = up_at place.kind c.events }) c) c
+    by true = (refl, refl, refl, refl, refl, refl)
+    by false = (refl, refl, refl, refl, refl, refl)
+
+mote_events : (e : EventCounter) (ended : Option EventPlace) (m : ℕ) (played : List Played) (c : EventCounts) (table : List (List ℕ × ℕ))
+    → CountedRun e played → CountsAre m played c → HasCounts (with_ended ended m c) table → HasEvents ended m played table
+mote_events e ended m played c table run are has =
+    let events = ended_events e ended m played c run (listed e played m has_kind 7 c.events run are.events) in
+    let rest = ended_rest ended m c in
+    let refused = rest.0 ∙ listed e played m is_refused 11 c.refused run are.refused in
+    let cuts = rest.1 ∙ are.cuts ∙ run.exact m is_cut in
+    let power = rest.2 ∙ are.by_power ∙ run.exact m is_start_by_power in
+    let order = rest.3 ∙ are.by_order ∙ run.exact m is_start_by_order in
+    let cut = rest.4 ∙ are.cut_by_power ∙ run.exact m is_cut_start_by_power in
+    let images = rest.5 ∙ listed e played m is_start_of 7 c.of_image run are.of_image in
+    let d : EventCounts = with_ended ended m c in
+    record {
+      events = subst (λ (rows : List (List ℕ × ℕ)). HasRows rows table)
+          (ap (λ (xs : List ℕ). rows_of_events xs d.refused d.cuts) events
+          ∙ ap (λ (xs : List ℕ). rows_of_events (and_ended ended m (counts_of m has_kind 7 played)) xs d.cuts) refused
+          ∙ ap (λ (n : ℕ). rows_of_events (and_ended ended m (counts_of m has_kind 7 played)) (counts_of m is_refused 11 played) n) cuts) has.events;
+      starts = subst (λ (rows : List (List ℕ × ℕ)). HasRows rows table)
+          (ap (λ (n : ℕ). rows_of_starts n d.by_order d.cut_by_power) power
+          ∙ ap (λ (n : ℕ). rows_of_starts (count_at m is_start_by_power played) n d.cut_by_power) order
+          ∙ ap (λ (n : ℕ). rows_of_starts (count_at m is_start_by_power played) (count_at m is_start_by_order played) n) cut) has.starts;
+      images = subst (λ (rows : List (List ℕ × ℕ)). HasRows rows table) (ap (λ (xs : List ℕ). rows_of_images xs) images) has.images;
+    }
+
+-- ---- times
+
+mote_times : (m ms : ℕ) (events : List Played) (u : Uptime) (table : List (List ℕ × ℕ)) → ms ≡ ms_of events → IsUptime m ms events u
+    → HasRows (rows_of_power u ms) table → HasRows (time_rows m events) table
+mote_times m ms events u table all is has =
+    subst (λ (rows : List (List ℕ × ℕ)). HasRows rows table)
+    (ap (λ (n : ℕ). rows_of_times n (ms - n) u.on) is.until ∙ ap (λ (n : ℕ). rows_of_times (on_ms_of m events) (n - on_ms_of m events) u.on) all
+    ∙ ap (λ (b : Bool). rows_of_times (on_ms_of m events) (ms_of events - on_ms_of m events) b) is.on) has
+
+-- declarations take no time
+events_ms : (b : Bool) (p : Played) (rest : List Played) (n : ℕ) → (b ≡ false → ms_before p.item ≡ 0) → ms_of rest ≡ n
+    → ms_of (cond b (p ∷ rest) rest) ≡ ms_before p.item + n
+events_ms true p rest n none is = sum_by-cons (λ (q : Played). ms_before q.item) p rest ∙ ap (λ (k : ℕ). ms_before p.item + k) is
+events_ms false p rest n none is = let zero_is : ms_before p.item ≡ 0 = none refl in omega (arith, is, zero_is)
+
+no_ms : (i : Item) → is_event i ≡ false → ms_before i ≡ 0
+no_ms (Declares row) e = refl
+no_ms (Applies s reported) e = absurd (both_ways true e refl)
+
+declared_ms : (played : List Played) → ms_of (events_played played) ≡ ms_of played
+declared_ms [] = refl
+declared_ms (p ∷ ps) =
+    events_ms (is_event p.item) p (events_played ps) (ms_of ps) (no_ms p.item) (declared_ms ps)
+    ∙ sym (sum_by-cons (λ (q : Played). ms_before q.item) p ps)
+
+-- ---- the counts of a replay
+
+pub run_rows : {table : List Row} {script : Script} (c : Counter) (ran : Status) (came : Progress table script) (counted : Counted)
+    → CountedReplay c came → IsCountOf c ran counted → CountsRun ran came counted
+run_rows c ran came counted replay is = record {
+  motes = is.motes ∙ replay.motes;
+  ended = is.ended;
+  whole = is.whole;
+  last = λ none.
+      subst (λ (rows : List (List ℕ × ℕ)). HasRows rows (table_of_rows counted.all))
+      (ap (λ (n : ℕ). rows_of_moment n c.times.ms) (replay.events.counted.all ∙ replay.events.exact_all)
+      ∙ ap (λ (n : ℕ). rows_of_moment (count_all came.played) n) (replay.times.ms ∙ declared_ms came.played)) (is.last none);
+  times = λ none m rows there.
+      let lt : m < length c.times.motes =
+      omega (arith, get_within counted.motes.items m rows there, is.motes, replay.few, replay.times.motes) in
+      mote_times m c.times.ms (events_played came.played) (get_or c.times.motes m never_on) (table_of_rows rows) replay.times.ms
+      (replay.times.each m (get_or c.times.motes m never_on) (get_there c.times.motes m never_on lt)) (is.power none m rows there);
+  each = λ m rows there.
+      let lt : m < length c.events.motes =
+      omega (arith, get_within counted.motes.items m rows there, is.motes, replay.few, replay.events.counted.motes) in
+      mote_events c.events is.ended m came.played (get_or c.events.motes m no_counts) (table_of_rows rows) replay.events
+      (replay.events.counted.each m (get_or c.events.motes m no_counts) (get_there c.events.motes m no_counts lt)) (is.each m rows there);
+}
+
+-- what a text shows of counts
+pub text_shows : (asked : Form) (P Q : Counted → Type 0) (report text : List ℕ) → ((counted : Counted) → P counted → Q counted) → IsText asked P report text
+    → IsText asked Q report text
+text_shows (Table model) P Q report text f is = tt
+text_shows Csv P Q report text f is = (is.0, is.1, f is.0 is.2)
+text_shows (Json model) P Q report text f is = tt
+text_shows Timed P Q report text f is = is
+
+-- ---- a replay that was counted
+
+-- the counter has counted this replay
+abbrev pub SeenReplay : Counter → Status → (a b : Around) → Type 0
+SeenReplay c ran a b = (table : List Row) → (x : Replayed table ran a b) × CountedReplay c x.came
+
+-- what a counter costs besides does not matter
+cost_shows : (asked : Form) (c : Counter) (costs : Costs) (ran : Status) (a b : Around) (report text : List ℕ)
+    → SeenReplay c ran a b → IsText asked (IsCountOf (record c { costs = costs }) ran) report text
+    → IsText asked (CountsReplay ran a b) report text
+cost_shows asked c costs ran a b report text seen is =
+    text_shows asked (IsCountOf (record c { costs = costs }) ran) (CountsReplay ran a b) report text shows is
+  where
+    same : (table : List Row) → CountedReplay (record c { costs = costs }) (seen table).0.came
+    same table = record {
+      events = (seen table).1.events;
+      times = (seen table).1.times;
+      motes = (seen table).1.motes;
+      few = (seen table).1.few;
+    }
+
+    shows : (counted : Counted) → IsCountOf (record c { costs = costs }) ran counted → CountsReplay ran a b counted
+    shows counted has table =
+        ((seen table).0, run_rows (record c { costs = costs }) ran (seen table).0.came counted (same table) has)
+
+-- A report was kept from none on, and the text was made of it and of the counts.
+pub rehearsed : (asked : Form) (c : Counter) (costs : Costs) (ran status : Status) (a b : Around) (kept report shown text : List ℕ)
+    (faults : ℕ) (before after : List Device) → kept ≡ [] → shown ≡ report
+    → ReplayDone ran (around a.left a.reads (Some kept) 0 before) (around b.left b.reads (Some report) faults after)
+    → SeenReplay c ran (around a.left a.reads (Some kept) 0 before) (around b.left b.reads (Some report) faults after)
+    → IsText asked (IsCountOf (record c { costs = costs }) ran) shown text → CostWrote ran status text a b
+    → Rehearsed asked status a b
+rehearsed asked c costs ran status a b kept report shown text faults before after none same done seen is wrote = record {
+  ran = ran;
+  report = report;
+  faults = faults;
+  before = before;
+  after = after;
+  replayed = subst (λ (xs : List ℕ). ReplayDone ran (around a.left a.reads (Some xs) 0 before) end) none done;
+  text = text;
+  is_text = cost_shows asked c costs ran (around a.left a.reads (Some []) 0 before) end report text
+      (subst (λ (xs : List ℕ). SeenReplay c ran (around a.left a.reads (Some xs) 0 before) end) none seen)
+      (subst (λ (xs : List ℕ). IsText asked (IsCountOf (record c { costs = costs }) ran) xs text) same is);
+  wrote = wrote;
+}
+  where
+    end : Around
+    end = around b.left b.reads (Some report) faults after
