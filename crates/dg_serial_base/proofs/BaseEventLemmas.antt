@@ -86,7 +86,7 @@ module _ (b : Base) (s : Store) (done : List BaseEvent) (d : BaseEvent) (before 
   base_event_done r u a new frame time stands x timely =
       base_event_ends (result_of r) u new frame time (frame_said frame e (Some v.node) a new r (Some u.node) x) (effect_ends frame e (Some v.node) a new r before.store u.node u.timeline.moment x stands timely)
 
--- ---- a event at the next moment
+-- ---- an event at the next moment
 
 pub timely_next : ((m : MoteState) (now then : ℕ) → now ≤ then → Timely m now → Timely m then) → (m : MoteState) (moment step new now : ℕ) → Timely m moment → now ≡ new → new ≡ moment + step → Timely m now
 timely_next law m moment step new now t p q = let le : moment ≤ now = omega (arith, p, q) in law m moment now le t
@@ -135,7 +135,7 @@ frame_longs {o} sent is = subst (λ (x : Option (List ℕ)). IfSome x (λ f. 1 �
 
 -- ---- and what is written
 
--- a event that failed is the last one
+-- an event that failed is the last one
 pub base_event_halts : (why : End) (a : Outset) (done : List BaseEvent) (d : BaseEvent) (before : At) (v : Running) (c : List ℕ) (now : Option (List ℕ)) (new : Device)
     → Stood a.base a.store done v c before → Puts a.written now (line_sent before) → AreOnLine before → BaseEventFails why a.base a.store done d before new → BaseEventsHalted why a (done ++ d ∷ []) now new
 base_event_halts ends.FlashFault a done d before v c now new stood put fits x =
@@ -172,7 +172,7 @@ halted_more why a all more now new h =
       by = stopped_more why a.base h.there h.rest more a.written now new h.by;
     }
 
--- ---- a event, and what it sent is written to the line
+-- ---- an event, and what it sent is written to the line
 
 all_and_one : (frames : List (List ℕ)) (frame : Option (List ℕ)) → AllByRecursion IsOnLine frames → IfSome frame IsOnLine → AllByRecursion IsOnLine (frames ++ one_if frame)
 all_and_one [] None all one = tt

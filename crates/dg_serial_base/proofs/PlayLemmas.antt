@@ -31,7 +31,7 @@ pub send_counts : (r : Result (Unit {0}) End) (text : List ℕ) (before now : Op
 send_counts (Ok x) text before now a b calm w = calm
 send_counts (Err why) text before now a b calm w = send_calm why text before now a b calm w
 
--- a event that failed wrote nothing
+-- an event that failed wrote nothing
 pub write_calm : (why : End) (b : Base) (s : Store) (done : List BaseEvent) (d : BaseEvent) (before : At) (new : Device) (n : ℕ) → BaseEventFails why b s done d before new → WritesBy why n n
 write_calm ends.WriteFault b s done d before new n x = absurd x
 write_calm end b s done d before new n x = refl

@@ -77,7 +77,7 @@ pub record LineAt : Type 0 where
 abbrev pub code_on_line : (written : Option (List ℕ)) → (mote : Running) → (reading : FrameReading) → (chip : Device) → LineAt
 code_on_line written mote reading chip = record { code = code_at written mote chip; reading = reading }
 
--- what a event leaves: the code's mote over its chip, and the frame that is to be written, if there is one
+-- what an event leaves: the code's mote over its chip, and the frame that is to be written, if there is one
 pub record BaseEventLeft : Type 0 where
   pub mote : Running
   pub chip : Device
@@ -154,7 +154,7 @@ pub record DoneOne (b : Base) (s : Store) (done : List BaseEvent) (d : BaseEvent
   pub stood : Stood b s (done ++ d ∷ []) left.mote left.chip.image there
   pub sent : map frame_of there.sent ≡ map frame_of before.sent ++ one_if left.frame
 
--- A event found no image to start.
+-- An event found no image to start.
 pub record LacksIn (b : Base) (s : Store) (done : List BaseEvent) (d : BaseEvent) (before : At) (c : List ℕ) : Type 0 where
   pub there : At
   pub run : BaseEventsRun b (powered b s) (done ++ d ∷ []) there
@@ -162,7 +162,7 @@ pub record LacksIn (b : Base) (s : Store) (done : List BaseEvent) (d : BaseEvent
   pub sent : there.sent ≡ before.sent
   pub stands : Stands c there.store
 
--- The chip stopped in a event.
+-- The chip stopped in an event.
 pub record StopsInBaseEvent (b : Base) (d : BaseEvent) (before : At) (new : Device) : Type 0 where
   pub state : MoteState
   pub on : before.mote ≡ Some state
