@@ -1,5 +1,5 @@
-//! `deluge_rehearse` plays an update of a network by the clock, and writes the script of it. `rehearse` of `dg_rehearse` does
-//! the work.
+//! `deluge_rehearse` plays an update of a network by the clock, and writes the script of it, or the script of a trial.
+//! `rehearse` and `write_trial` of `dg_rehearse` do the work.
 #![tactic(auto)]
 
 ghost use Rattle.std.specs.Prelude.{IfOk};
@@ -15,23 +15,27 @@ use dg_input::{ReadStop, read_whole};
 use dg_messages::{Told, push_sentence};
 use dg_netcfg::{NetProfile, ProfileFault, read_profile};
 use dg_nor::Board;
-use dg_rehearse::{Ending, Plan, Rehearsal, Stop, rehearse};
+use dg_rehearse::{Ending, Plan, Rehearsal, Stop, rehearse, write_trial};
 use std::alloc::AllocError;
 use std::env;
 use std::fs::File;
 use std::io::{self, ErrorKind, Read};
 use std::process::ExitCode;
-use words::{Asked, Rehearse, read_words};
+use words::{Asked, Rehearse, Trial, read_words};
 
 const HELP: &str = "\
 deluge_rehearse: plays an update of a network by the clock, and writes the script of it
 
 Usage: deluge_rehearse [OPTIONS] --image I --ver V --name NAME <PROFILE> < IMAGE.HEX
+       deluge_rehearse --trial MOTES PAGES SEED
 
 It reads the image from standard input, as Intel HEX. Each mote of the network profile (TOML) starts golden, the image
 is injected into one of them, and the network runs by the rules: a mote is ticked when something of it is due, and each
 frame is heard by each neighbour unless it is lost. It ends when every mote has the image. `deluge replay` plays the
 script again, `deluge_cost` tells what it costs, and `deluge_picture` draws its report.
+
+With --trial it reads no input, and writes the schedule that `deluge trial --motes MOTES --pages PAGES --seed SEED` plays.
+MOTES is 2 to 16, PAGES 2 to 65, and SEED 0 to 4294967295.
 
 Options:
   --image I     the number of the image, 1 to 6
@@ -46,8 +50,9 @@ Options:
   --help        writes this text
   --version     writes the version
 
-Statuses: 0 every mote has it, 8 the time was over before, 1 out of memory, 2 usage, 3 bad input, 4 a read failed, 5 a
-write failed, 6 the profile's file or a chip failed, 10 the input or the script is too long, 11 too many events.
+Statuses: 0 every mote has it, or the schedule is written, 8 the time was over before, 1 out of memory, 2 usage, 3 bad
+input, 4 a read failed, 5 a write failed, 6 the profile's file or a chip failed, 10 the input or the script is too long,
+11 too many events.
 ";
 
 const VERSION: &str = "deluge_rehearse 0.9\n";
@@ -148,11 +153,20 @@ fn boards(rt: &HostRuntime) -> Result<Vec<Board>, AllocError> {
     Ok(boards)
 }
 
+/// Writes a script to standard output.
+fn write_script(rt: &HostRuntime, script: &[u8]) -> Status {
+    let mut out = rt.stdout();
+    match io::Write::write_all(&mut out, script) {
+        Ok(()) => Status::Done,
+        Err(_) => fail(rt, "standard output: a write failed", Status::WriteFault),
+    }
+}
+
 /// Writes the script of a rehearsal, and says on standard error how it ended.
 fn told(rt: &HostRuntime, rehearsal: &Rehearsal) -> Status {
-    let mut out = rt.stdout();
-    if io::Write::write_all(&mut out, rehearsal.script.as_slice()).is_err() {
-        return fail(rt, "standard output: a write failed", Status::WriteFault);
+    let status = write_script(rt, rehearsal.script.as_slice());
+    if status != Status::Done {
+        return status;
     }
     let minutes = rehearsal.moment / 60_000;
     let seconds = rehearsal.moment / 1_000 % 60;
@@ -210,15 +224,39 @@ fn play(rt: &HostRuntime, profile: &NetProfile, plan: &Plan) -> Status
     };
     match rehearse(rt.alloc(), profile, plan, &mut boards) {
         Ok(rehearsal) => told(rt, &rehearsal),
-        Err(Stop::Memory) => fail(rt, MEMORY, Status::Memory),
-        Err(Stop::Flash) => fail(rt, "a chip stopped", Status::FlashFault),
-        Err(Stop::NoBoard) => fail(rt, "fewer chips than motes", Status::NoBoard),
-        Err(Stop::NoMote) => fail(
+        Err(stop) => stopped(rt, stop),
+    }
+}
+
+/// Writes to standard error why there is no script, and answers the status.
+fn stopped(rt: &HostRuntime, stop: Stop) -> Status {
+    match stop {
+        Stop::Memory => fail(rt, MEMORY, Status::Memory),
+        Stop::Flash => fail(rt, "a chip stopped", Status::FlashFault),
+        Stop::NoBoard => fail(rt, "fewer chips than motes", Status::NoBoard),
+        Stop::NoMote => fail(
             rt,
             "--at: no mote of the profile has this number; the first is 0",
             Status::BadInput,
         ),
-        Err(Stop::Size) => fail(rt, SIZE, Status::BadInput),
+        Stop::Size => fail(rt, SIZE, Status::BadInput),
+    }
+}
+
+/// Writes the script of a trial.
+fn run_trial(rt: &HostRuntime, trial: &Trial) -> Status {
+    let Ok(mut boards) = boards(rt) else {
+        return fail(rt, MEMORY, Status::Memory);
+    };
+    match write_trial(
+        rt.alloc(),
+        trial.motes,
+        trial.pages,
+        trial.seed,
+        &mut boards,
+    ) {
+        Ok(script) => write_script(rt, script.as_slice()),
+        Err(stop) => stopped(rt, stop),
     }
 }
 
@@ -239,6 +277,7 @@ fn done(rt: &HostRuntime) -> Status {
     };
     match asked {
         Ok(Asked::Rehearse(asked)) => run(rt, asked),
+        Ok(Asked::Trial(trial)) => run_trial(rt, &trial),
         Ok(Asked::Help) => write(rt, HELP),
         Ok(Asked::Version) => write(rt, VERSION),
         Ok(Asked::Other) => fail(rt, "try deluge_rehearse --help", Status::Usage),

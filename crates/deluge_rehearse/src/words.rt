@@ -1,4 +1,6 @@
 //! What the words after the program's name ask for.
+ghost use Rattle.std.specs.Prelude.{◌≤◌};
+
 use dg_base::{Bytes, is_name, parse_u32};
 use std::alloc::AllocError;
 use std::env::Args;
@@ -7,6 +9,7 @@ use std::env::Args;
 #[derive(Drop)]
 pub(crate) enum Asked {
     Rehearse(Rehearse),
+    Trial(Trial),
     Help,
     Version,
     /// Unknown words, or a number that is out of range.
@@ -26,6 +29,18 @@ pub(crate) struct Rehearse {
     pub(crate) minutes: u32,
     pub(crate) cuts: u32,
     pub(crate) profile: String,
+}
+
+/// A trial whose script is asked for.
+#[derive(Drop)]
+pub(crate) struct Trial {
+    pub(crate) motes: u8,
+    pub(crate) pages: u8,
+    pub(crate) seed: u32,
+    ghost some: { 2 ≤ motes },
+    ghost few: { motes ≤ 16 },
+    ghost some_pages: { 2 ≤ pages },
+    ghost few_pages: { pages ≤ 65 },
 }
 
 /// An option that has a value.
@@ -102,6 +117,23 @@ fn keep_small(place: &mut Option<u8>, word: &str, least: u8, most: u8) -> bool {
 }
 
 impl Reading {
+    /// No word was read.
+    fn none() -> Reading {
+        Reading {
+            image: None,
+            version: None,
+            name: None,
+            at: None,
+            ordered: false,
+            loss: None,
+            seed: None,
+            minutes: None,
+            cuts: None,
+            profile: None,
+            waits: None,
+        }
+    }
+
     /// Reads a word. Answers whether it is allowed there.
     fn read(&mut self, word: String) -> bool {
         match self.waits {
@@ -186,32 +218,76 @@ impl Reading {
     }
 }
 
+/// The words after `--trial` that were read so far.
+#[derive(Drop)]
+struct TrialReading {
+    motes: Option<u8>,
+    pages: Option<u8>,
+    seed: Option<u32>,
+}
+
+impl TrialReading {
+    /// No word was read.
+    fn none() -> TrialReading {
+        TrialReading {
+            motes: None,
+            pages: None,
+            seed: None,
+        }
+    }
+
+    /// Reads the next word. Answers whether it is allowed there.
+    fn read(&mut self, word: &str) -> bool {
+        if self.motes.is_none() {
+            return keep_small(&mut self.motes, word, 0, u8::MAX);
+        }
+        if self.pages.is_none() {
+            return keep_small(&mut self.pages, word, 0, u8::MAX);
+        }
+        keep(&mut self.seed, word, 0, u32::MAX)
+    }
+
+    /// What all words ask for.
+    fn asked(self) -> Asked {
+        let TrialReading { motes, pages, seed } = self;
+        let (Some(motes), Some(pages), Some(seed)) = (motes, pages, seed) else {
+            return Asked::Other;
+        };
+        if motes < 2 || motes > 16 || pages < 2 || pages > 65 {
+            return Asked::Other;
+        }
+        Asked::Trial(Trial { motes, pages, seed })
+    }
+}
+
 /// What these words ask for. The first one is the program's name.
 pub(crate) fn read_words(_rt: &HostRuntime, args: Args) -> Result<Asked, AllocError> {
-    let mut reading = Reading {
-        image: None,
-        version: None,
-        name: None,
-        at: None,
-        ordered: false,
-        loss: None,
-        seed: None,
-        minutes: None,
-        cuts: None,
-        profile: None,
-        waits: None,
-    };
+    let mut reading = Reading::none();
+    let mut trial = TrialReading::none();
+    let mut is_trial = false;
     for (number, word) in args.skip(1).enumerate() {
         if number == 0 {
             match word.as_str() {
                 "--help" => return Ok(Asked::Help),
                 "--version" => return Ok(Asked::Version),
+                "--trial" => {
+                    is_trial = true;
+                    continue;
+                }
                 _ => {}
             }
         }
-        if !reading.read(word) {
+        let is_allowed = if is_trial {
+            trial.read(word.as_str())
+        } else {
+            reading.read(word)
+        };
+        if !is_allowed {
             return Ok(Asked::Other);
         }
+    }
+    if is_trial {
+        return Ok(trial.asked());
     }
     Ok(reading.asked())
 }

@@ -29,8 +29,8 @@ use Rattle.dg_rules.specs.World.{World, store_at}
 use Rattle.dg_rules.proofs.TableLemmas.{same_some, find_here, has_own_image_version}
 use Rattle.dg_world.specs.Alone.{uncut}
 use Rattle.dg_world.specs.declared.world.World.{World as KeptWorld}
-use Rattle.dg_rehearse.specs.Ended.{RehearsalEnded, DeliversAlong, EndsAs, Ends, EndsNow, EndsBegun, IsComplete, HasBegun, InjectsImage, OrdersImage, TellsEach}
-use Rattle.dg_rehearse.specs.Rehearsed.{Rehearses, IsRehearsed, IsRehearsedStep, IsPlanned, IsStaged, IsUnderWay, GoesOnBy, GoesOn, Any, Makes, IsFull, OnlyDeclared, Staging, planned_row, played_item}
+use Rattle.dg_rehearse.specs.Ended.{RehearsalEnded, DeliversAlong, EndsAs, Ends, EndsNow, EndsBegun, IsUpdateComplete, HasBegun, InjectsImage, OrdersImage, TellsEach}
+use Rattle.dg_rehearse.specs.Rehearsed.{Rehearses, IsRehearsed, IsRehearsedStep, IsPlanned, IsStaged, IsUnderWay, IsContinuedBy, IsContinued, Any, Makes, IsFull, OnlyDeclared, Staging, planned_row, played_item}
 use Rattle.dg_rehearse.specs.declared.plan.Ending.{Ending}
 use Rattle.dg_rehearse.specs.declared.plan.Ending.TheVariants.{Complete, OutOfTime, TooMany, TooLong}
 use Rattle.dg_rehearse.specs.declared.plan.Plan.{Plan}
@@ -115,7 +115,7 @@ module _ (w : World) (p : Plan) (known : OnlyDeclared w) (declared : w.declared 
   pub whole_at : WorldAgrees w → (m : ℕ) → m < length w.sites → IsAll (held (store_at w m) p.image) → held (store_at w m) p.image ≡ Some (held_whole row)
   whole_at good m within all = whole (held (store_at w m) p.image) ((good.sites m within).store.agrees.kept p.image) all
 
-is_complete : AgreesLaw → (n : NetProfile) (p : Plan) (initial : List Device) (s : Staging) → IsAllowed n → IsPlanned n.motes p → (t : IsStaged n p initial s) → TellsEach n.motes p (final_lines t.world) → IsComplete n p t.world
+is_complete : AgreesLaw → (n : NetProfile) (p : Plan) (initial : List Device) (s : Staging) → IsAllowed n → IsPlanned n.motes p → (t : IsStaged n p initial s) → TellsEach n.motes p (final_lines t.world) → IsUpdateComplete n p t.world
 is_complete law n p initial s allowed planned t tells =
     let good = agrees law n p t.steps t.world allowed planned t.run in
     record {
@@ -140,7 +140,7 @@ begun_later p before more b = (
 -- ---- the whole rehearsal
 
 pub ended : AgreesLaw → (n : NetProfile) (p : Plan) (initial boards : List Device) (s : Staging) (kept : KeptWorld) (r : Rehearsal) → IsAllowed n → IsPlanned n.motes p → IsStaged n p initial s
-    → GoesOnBy (EndsBegun r.ending n p r.script.items) n p s (record { kept = kept; boards = boards; script = r.script.items; moment = r.moment }) → RehearsalEnded n p initial boards r
+    → IsContinuedBy (EndsBegun r.ending n p r.script.items) n p s (record { kept = kept; boards = boards; script = r.script.items; moment = r.moment }) → RehearsalEnded n p initial boards r
 ended law n p initial boards s kept r allowed planned x goes =
     let u : Staging = record { kept = kept; boards = boards; script = r.script.items; moment = r.moment } in
     let o = goes.goes initial x in
@@ -152,7 +152,7 @@ ended law n p initial boards s kept r allowed planned x goes =
       begun = λ enough. subst (λ (l : List Step). HasBegun p l) (sym o.0.steps) (begun_later p x.steps o.0.more (o.1.1 enough));
     }
 
-pub delivers : (n : NetProfile) (p : Plan) (initial : List Device) (s u : Staging) → IsAllowed n → IsPlanned n.motes p → IsStaged n p initial s → GoesOn n p s u → DeliversAlong n p initial u.boards u.script
+pub delivers : (n : NetProfile) (p : Plan) (initial : List Device) (s u : Staging) → IsAllowed n → IsPlanned n.motes p → IsStaged n p initial s → IsContinued n p s u → DeliversAlong n p initial u.boards u.script
 delivers n p initial s u allowed planned x goes =
     let t = (goes.goes initial x).0.staged in
     record { told = rehearsed n p u initial allowed planned t; along = t.along }
@@ -176,19 +176,19 @@ option_same a b e = cc
 one_there : (x : Step) (xs : List Step) → xs ≡ x ∷ [] → Contains xs x
 one_there x xs e = subst (λ (l : List Step). Contains l x) (sym e) (Contains-push [] x)
 
-pub injected_by : (n : NetProfile) (p : Plan) (word : ℕ) (s t : Staging) → Makes (uncut (Inject p.at p.image p.version 0 word)) n p s t → GoesOnBy (λ more w. InjectsImage p more) n p s t
+pub injected_by : (n : NetProfile) (p : Plan) (word : ℕ) (s t : Staging) → Makes (uncut (Inject p.at p.image p.version 0 word)) n p s t → IsContinuedBy (λ more w. InjectsImage p more) n p s t
 injected_by n p word s t m = weaker _ (λ more w. InjectsImage p more) n p s t (λ more w e. (word, one_there (uncut (Inject p.at p.image p.version 0 word)) more e)) m.0
 
-pub ordered_by : (n : NetProfile) (p : Plan) (word : ℕ) (s t : Staging) → Makes (uncut (Order p.at 1 p.image p.version 0 word)) n p s t → GoesOnBy (λ more w. OrdersImage p more) n p s t
+pub ordered_by : (n : NetProfile) (p : Plan) (word : ℕ) (s t : Staging) → Makes (uncut (Order p.at 1 p.image p.version 0 word)) n p s t → IsContinuedBy (λ more w. OrdersImage p more) n p s t
 ordered_by n p word s t m = weaker _ (λ more w. OrdersImage p more) n p s t (λ more w e ordered. (word, one_there (uncut (Order p.at 1 p.image p.version 0 word)) more e)) m.0
 
-pub unordered : (n : NetProfile) (p : Plan) (s : Staging) → p.ordered ≡ false → GoesOnBy (λ more w. OrdersImage p more) n p s s
+pub unordered : (n : NetProfile) (p : Plan) (s : Staging) → p.ordered ≡ false → IsContinuedBy (λ more w. OrdersImage p more) n p s s
 unordered n p s not_so = goes_nowhere_by (λ more w. OrdersImage p more) n p s (λ initial t so. absurd (differ (sym so ∙ not_so)))
   where
     differ : true ≡ false → ⊥
     differ e = cc
 
-pub begun_by : (n : NetProfile) (p : Plan) (s t u : Staging) → GoesOnBy (λ more w. InjectsImage p more) n p s t → GoesOnBy (λ more w. OrdersImage p more) n p t u → GoesOnBy (λ more w. HasBegun p more) n p s u
+pub begun_by : (n : NetProfile) (p : Plan) (s t u : Staging) → IsContinuedBy (λ more w. InjectsImage p more) n p s t → IsContinuedBy (λ more w. OrdersImage p more) n p t u → IsContinuedBy (λ more w. HasBegun p more) n p s u
 begun_by n p s t u a b =
     then_by (λ more w. InjectsImage p more) (λ more w. OrdersImage p more) (λ more w. HasBegun p more) n p s t u
     (λ xs ys w v i o. (
@@ -204,17 +204,17 @@ begun_first p xs ys b = (
   λ ordered. let k = b.1 ordered in (k.0, Contains-append_left xs ys (uncut (Order p.at 1 p.image p.version 0 k.0)) k.1),
 )
 
-pub begun_ends : (e : Ending) (n : NetProfile) (p : Plan) (script : List ℕ) (s t u v : Staging) → GoesOn n p s t → GoesOnBy (λ more w. HasBegun p more) n p t u → GoesOnBy (λ more w. Ends e n p script w) n p u v → GoesOnBy (EndsBegun e n p script) n p s v
+pub begun_ends : (e : Ending) (n : NetProfile) (p : Plan) (script : List ℕ) (s t u v : Staging) → IsContinued n p s t → IsContinuedBy (λ more w. HasBegun p more) n p t u → IsContinuedBy (λ more w. Ends e n p script w) n p u v → IsContinuedBy (EndsBegun e n p script) n p s v
 begun_ends e n p script s t u v a b c =
     then_by (λ more w. HasBegun p more) (λ more w. Ends e n p script w) (EndsBegun e n p script) n p s u v
     (λ xs ys w z begun ends. (ends, λ enough. begun_first p xs ys begun))
     (then_by Any (λ more w. HasBegun p more) (λ more w. HasBegun p more) n p s t u (λ xs ys w z _ h. begun_later p xs ys h) a b) c
 
-pub full_ends : (n : NetProfile) (p : Plan) (script : List ℕ) (s t : Staging) → GoesOn n p s t → IsFull t → GoesOnBy (λ more w. Ends TooMany n p script w) n p s t
+pub full_ends : (n : NetProfile) (p : Plan) (script : List ℕ) (s t : Staging) → IsContinued n p s t → IsFull t → IsContinuedBy (λ more w. Ends TooMany n p script w) n p s t
 full_ends n p script s t g full =
     weaker_staged Any (λ more w. Ends TooMany n p script w) n p s t (λ initial more x _. sym x.is.events ∙ full) g
 
-pub full_begun : (n : NetProfile) (p : Plan) (script : List ℕ) (s t : Staging) → GoesOn n p s t → IsFull t → GoesOnBy (EndsBegun TooMany n p script) n p s t
+pub full_begun : (n : NetProfile) (p : Plan) (script : List ℕ) (s t : Staging) → IsContinued n p s t → IsFull t → IsContinuedBy (EndsBegun TooMany n p script) n p s t
 full_begun n p script s t g full =
     weaker_staged Any (EndsBegun TooMany n p script) n p s t (λ initial more x _. (sym x.is.events ∙ full, λ enough. absurd (enough refl))) g
 
@@ -224,7 +224,7 @@ now_ends OutOfTime n p initial s h t = subst (λ (k : ℕ). p.minutes * 60000 �
 now_ends TooMany n p initial s h t = absurd h
 now_ends TooLong n p initial s h t = h
 
-pub ends_nowhere : (e : Ending) (n : NetProfile) (p : Plan) (s : Staging) → EndsNow e p s → GoesOnBy (λ more w. Ends e n p s.script w) n p s s
+pub ends_nowhere : (e : Ending) (n : NetProfile) (p : Plan) (s : Staging) → EndsNow e p s → IsContinuedBy (λ more w. Ends e n p s.script w) n p s s
 ends_nowhere e n p s h = goes_nowhere_by (λ more w. Ends e n p s.script w) n p s (λ initial t. now_ends e n p initial s h t)
 
 -- after a turn for each event there are no more
@@ -235,14 +235,14 @@ counted_full n p t turns u many all =
     omega (arith, a, b, many, all)
 
 -- the end that a turn answers is that of too many events
-pub many_ends : (e : Ending) (n : NetProfile) (p : Plan) (script : List ℕ) (s t : Staging) → e ≡ TooMany → GoesOn n p s t → IsFull t → GoesOnBy (λ more w. Ends e n p script w) n p s t
-many_ends e n p script s t is g full = subst (λ (x : Ending). GoesOnBy (λ more w. Ends x n p script w) n p s t) (sym is) (full_ends n p script s t g full)
+pub many_ends : (e : Ending) (n : NetProfile) (p : Plan) (script : List ℕ) (s t : Staging) → e ≡ TooMany → IsContinued n p s t → IsFull t → IsContinuedBy (λ more w. Ends e n p script w) n p s t
+many_ends e n p script s t is g full = subst (λ (x : Ending). IsContinuedBy (λ more w. Ends x n p script w) n p s t) (sym is) (full_ends n p script s t g full)
 
-pub ends_here : (a e : Ending) (n : NetProfile) (p : Plan) (s : Staging) → a ≡ e → EndsNow a p s → GoesOnBy (λ more w. Ends e n p s.script w) n p s s
+pub ends_here : (a e : Ending) (n : NetProfile) (p : Plan) (s : Staging) → a ≡ e → EndsNow a p s → IsContinuedBy (λ more w. Ends e n p s.script w) n p s s
 ends_here a e n p s is h = ends_nowhere e n p s (subst (λ (x : Ending). EndsNow x p s) is h)
 
-pub many_begun : (e : Ending) (n : NetProfile) (p : Plan) (script : List ℕ) (s t : Staging) → e ≡ TooMany → GoesOn n p s t → IsFull t → GoesOnBy (EndsBegun e n p script) n p s t
-many_begun e n p script s t is g full = subst (λ (x : Ending). GoesOnBy (EndsBegun x n p script) n p s t) (sym is) (full_begun n p script s t g full)
+pub many_begun : (e : Ending) (n : NetProfile) (p : Plan) (script : List ℕ) (s t : Staging) → e ≡ TooMany → IsContinued n p s t → IsFull t → IsContinuedBy (EndsBegun e n p script) n p s t
+many_begun e n p script s t is g full = subst (λ (x : Ending). IsContinuedBy (EndsBegun x n p script) n p s t) (sym is) (full_begun n p script s t g full)
 
-pub complete_ends : (e : Ending) (n : NetProfile) (p : Plan) (script : List ℕ) (s t : Staging) → Complete ≡ e → GoesOnBy (λ more w. Ends Complete n p script w) n p s t → GoesOnBy (λ more w. Ends e n p script w) n p s t
-complete_ends e n p script s t is g = subst (λ (x : Ending). GoesOnBy (λ more w. Ends x n p script w) n p s t) is g
+pub complete_ends : (e : Ending) (n : NetProfile) (p : Plan) (script : List ℕ) (s t : Staging) → Complete ≡ e → IsContinuedBy (λ more w. Ends Complete n p script w) n p s t → IsContinuedBy (λ more w. Ends e n p script w) n p s t
+complete_ends e n p script s t is g = subst (λ (x : Ending). IsContinuedBy (λ more w. Ends x n p script w) n p s t) is g

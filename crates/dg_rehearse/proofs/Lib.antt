@@ -2,7 +2,10 @@ pub mod WrittenLemmas
 pub mod StepLemmas
 pub mod PlayLemmas
 pub mod BeginLemmas
+pub mod ScriptLemmas
 pub mod SpellLemmas
 pub mod TellingLemmas
 pub mod EndLemmas
 pub mod NeighbourLemmas
+pub mod TrialRunLemmas
+pub mod TrialLemmas

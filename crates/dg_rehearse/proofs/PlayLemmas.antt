@@ -35,9 +35,10 @@ use Rattle.dg_world.specs.declared.world.WorldFault.{WorldFault}
 use Rattle.dg_world.specs.declared.world.WorldFault.TheVariants.{TooMany}
 use Rattle.dg_world.proofs.EndureLemmas.{event_within, stands_next}
 use Rattle.dg_rehearse.specs.Along.{IsAlong}
-use Rattle.dg_rehearse.specs.Rehearsed.{Rehearses, IsRehearsed, IsRehearsedStep, IsStaged, IsUnderWay, GoesOnBy, GoesOn, Any, Makes, MoreEvents, IsFull, Staging, played_item, rehearsed_items, rehearsed_lines, written, written_lines}
+use Rattle.dg_rehearse.specs.Rehearsed.{Rehearses, IsRehearsed, IsRehearsedStep, IsStaged, IsUnderWay, IsContinuedBy, IsContinued, Any, Makes, MoreEvents, IsFull, Staging, played_item, rehearsed_items, rehearsed_lines, written, written_lines}
 use Rattle.dg_rehearse.specs.Rehearsed.{SendsAtMost, SendsOnly, IsSentBy, SentBy, LastSentBy, GoesAlong}
 use Rattle.dg_rehearse.specs.declared.plan.Plan.{Plan}
+use Rattle.dg_rehearse.proofs.ScriptLemmas.{fits_event}
 use Rattle.dg_rehearse.proofs.StepLemmas.{Next, step_next}
 use Rattle.dg_rehearse.proofs.WrittenLemmas.{cut_by, event_written, cut_written}
 
@@ -203,7 +204,7 @@ pub same_goes_on : (n : NetProfile) (p : Plan) (kept kept2 : KeptWorld) (boards 
     → ((w : World) → IsWorld kept boards w → IsWorld kept2 boards2 w)
     → ((w : World) (initial : List Device) → IsWorld kept boards w → WorldStands w initial boards → WorldStands w initial boards2)
     → ((initial : List Device) (t : IsStaged n p initial (record { kept = kept; boards = boards; script = script; moment = moment })) → P [] t.world)
-    → GoesOnBy P n p (record { kept = kept; boards = boards; script = script; moment = moment }) (record { kept = kept2; boards = boards2; script = script; moment = moment })
+    → IsContinuedBy P n p (record { kept = kept; boards = boards; script = script; moment = moment }) (record { kept = kept2; boards = boards2; script = script; moment = moment })
 same_goes_on n p kept kept2 boards boards2 script moment P u is stands holds = record {
   goes = λ initial t. (
     record {
@@ -241,7 +242,7 @@ At kept boards script moment = record { kept = kept; boards = boards; script = s
 pub told_goes_on : {T E : Type 0} (result : Result T E) (fault : WorldFault) (n : NetProfile) (p : Plan) (kept kept2 : KeptWorld) (boards boards2 : List Device) (script : List ℕ) (moment : ℕ)
     → IsUnderWay n p (At kept boards script moment)
     → (fault ≡ TooMany → ((w : World) → IsWorld kept boards w → IsWorld kept2 boards2 w) × (boards2 ≡ boards)) → OnOk result (fault ≡ TooMany)
-    → OnOk result (GoesOn n p (At kept boards script moment) (At kept2 boards2 script moment))
+    → OnOk result (IsContinued n p (At kept boards script moment) (At kept2 boards2 script moment))
 told_goes_on result fault n p kept kept2 boards boards2 script moment u same told =
     on_ok_weaker result
     (λ is. let e = same is in same_goes_on n p kept kept2 boards boards2 script moment Any u e.0 (λ w initial at stands. subst (λ (ds : List Device). WorldStands w initial ds) (sym e.1) stands) (λ initial t. tt))
@@ -260,30 +261,30 @@ at_ok {T} {E} r x G e h = subst (λ (q : Result T E). OnOk q G) e h
 
 -- ---- one after the other
 
-pub goes_nowhere : (n : NetProfile) (p : Plan) (s : Staging) → GoesOnBy Any n p s s
+pub goes_nowhere : (n : NetProfile) (p : Plan) (s : Staging) → IsContinuedBy Any n p s s
 goes_nowhere n p s = record {
   goes = λ initial t. (record { staged = t; more = []; steps = sym (append-nil t.steps); frames = []; sent = sym (append-nil t.world.sent) }, tt);
   events = omega arith;
 }
 
 -- nothing more is played
-pub goes_nowhere_by : (P : List Step → World → Type 0) (n : NetProfile) (p : Plan) (s : Staging) → ((initial : List Device) (t : IsStaged n p initial s) → P [] t.world) → GoesOnBy P n p s s
+pub goes_nowhere_by : (P : List Step → World → Type 0) (n : NetProfile) (p : Plan) (s : Staging) → ((initial : List Device) (t : IsStaged n p initial s) → P [] t.world) → IsContinuedBy P n p s s
 goes_nowhere_by P n p s h = record {
   goes = λ initial t. (record { staged = t; more = []; steps = sym (append-nil t.steps); frames = []; sent = sym (append-nil t.world.sent) }, h initial t);
   events = omega arith;
 }
 
-pub weaker : (P Q : List Step → World → Type 0) (n : NetProfile) (p : Plan) (s t : Staging) → ((more : List Step) (w : World) → P more w → Q more w) → GoesOnBy P n p s t → GoesOnBy Q n p s t
+pub weaker : (P Q : List Step → World → Type 0) (n : NetProfile) (p : Plan) (s t : Staging) → ((more : List Step) (w : World) → P more w → Q more w) → IsContinuedBy P n p s t → IsContinuedBy Q n p s t
 weaker P Q n p s t h g = record { goes = λ initial x. let o = g.goes initial x in (o.0, h o.0.more o.0.staged.world o.1); events = g.events }
 
 -- with what the staged world then is
-pub weaker_staged : (P Q : List Step → World → Type 0) (n : NetProfile) (p : Plan) (s t : Staging) → ((initial : List Device) (more : List Step) (x : IsStaged n p initial t) → P more x.world → Q more x.world) → GoesOnBy P n p s t → GoesOnBy Q n p s t
+pub weaker_staged : (P Q : List Step → World → Type 0) (n : NetProfile) (p : Plan) (s t : Staging) → ((initial : List Device) (more : List Step) (x : IsStaged n p initial t) → P more x.world → Q more x.world) → IsContinuedBy P n p s t → IsContinuedBy Q n p s t
 weaker_staged P Q n p s t h g = record { goes = λ initial x. let o = g.goes initial x in (o.0, h initial o.0.more o.0.staged o.1); events = g.events }
 
-pub any_of : (P : List Step → World → Type 0) (n : NetProfile) (p : Plan) (s t : Staging) → GoesOnBy P n p s t → GoesOn n p s t
+pub any_of : (P : List Step → World → Type 0) (n : NetProfile) (p : Plan) (s t : Staging) → IsContinuedBy P n p s t → IsContinued n p s t
 any_of P n p s t g = weaker P Any n p s t (λ more w h. tt) g
 
-pub then_by : (P Q R : List Step → World → Type 0) (n : NetProfile) (p : Plan) (s t u : Staging) → ((xs ys : List Step) (w v : World) → P xs w → Q ys v → R (xs ++ ys) v) → GoesOnBy P n p s t → GoesOnBy Q n p t u → GoesOnBy R n p s u
+pub then_by : (P Q R : List Step → World → Type 0) (n : NetProfile) (p : Plan) (s t u : Staging) → ((xs ys : List Step) (w v : World) → P xs w → Q ys v → R (xs ++ ys) v) → IsContinuedBy P n p s t → IsContinuedBy Q n p t u → IsContinuedBy R n p s u
 then_by P Q R n p s t u h f g = record {
   goes = λ initial x.
       let a = f.goes initial x in
@@ -300,24 +301,24 @@ then_by P Q R n p s t u h f g = record {
   events = let a = f.events in let b = g.events in omega (arith, a, b);
 }
 
-pub goes_then : (n : NetProfile) (p : Plan) (s t u : Staging) → GoesOn n p s t → GoesOn n p t u → GoesOn n p s u
+pub goes_then : (n : NetProfile) (p : Plan) (s t u : Staging) → IsContinued n p s t → IsContinued n p t u → IsContinued n p s u
 goes_then n p s t u a b = then_by Any Any Any n p s t u (λ xs ys w v _ _. tt) a b
 
 -- what holds of the last world
-pub then_ends : (P : World → Type 0) (n : NetProfile) (p : Plan) (s t u : Staging) → GoesOn n p s t → GoesOnBy (λ more w. P w) n p t u → GoesOnBy (λ more w. P w) n p s u
+pub then_ends : (P : World → Type 0) (n : NetProfile) (p : Plan) (s t u : Staging) → IsContinued n p s t → IsContinuedBy (λ more w. P w) n p t u → IsContinuedBy (λ more w. P w) n p s u
 then_ends P n p s t u a b = then_by Any (λ more w. P w) (λ more w. P w) n p s t u (λ xs ys w v _ h. h) a b
 
-pub still_under_way : (n : NetProfile) (p : Plan) (s t : Staging) → GoesOn n p s t → IsUnderWay n p s → IsUnderWay n p t
+pub still_under_way : (n : NetProfile) (p : Plan) (s t : Staging) → IsContinued n p s t → IsUnderWay n p s → IsUnderWay n p t
 still_under_way n p s t g u = record { allowed = u.allowed; planned = u.planned; initial = u.initial; staged = (g.goes u.initial u.staged).0.staged }
 
 -- the outcome of two steps, the second of which may be given up
-pub goes_to : {T E : Type 0} (r : Result T E) (n : NetProfile) (p : Plan) (s t u : Staging) → GoesOn n p s t → OnOk r (GoesOn n p t u) → OnOk r (GoesOn n p s u)
+pub goes_to : {T E : Type 0} (r : Result T E) (n : NetProfile) (p : Plan) (s t u : Staging) → IsContinued n p s t → OnOk r (IsContinued n p t u) → OnOk r (IsContinued n p s u)
 goes_to r n p s t u a b = on_ok_weaker r (λ g. goes_then n p s t u a g) b
 
-pub more_then : (n : NetProfile) (p : Plan) (s t u : Staging) → MoreEvents s t → GoesOn n p t u → MoreEvents s u
+pub more_then : (n : NetProfile) (p : Plan) (s t u : Staging) → MoreEvents s t → IsContinued n p t u → MoreEvents s u
 more_then n p s t u a g = let b = g.events in omega (arith, a, b)
 
-pub more_later : (n : NetProfile) (p : Plan) (s t u : Staging) → GoesOn n p s t → MoreEvents t u → MoreEvents s u
+pub more_later : (n : NetProfile) (p : Plan) (s t u : Staging) → IsContinued n p s t → MoreEvents t u → MoreEvents s u
 more_later n p s t u g b = let a = g.events in omega (arith, a, b)
 
 -- ---- frames
@@ -351,7 +352,7 @@ numbered_last : (P : Sent → Type 0) (xs : List Sent) (f : Sent) → P f → Is
 numbered_last P xs f h = numbered_at P (xs ++ f ∷ []) (length (xs ++ f ∷ [])) (length xs) (length-append xs (f ∷ [])) (get_last P xs f h)
 
 -- a frame keeps its number
-pub still_sent : (n : NetProfile) (p : Plan) (s t : Staging) (m k : ℕ) → GoesOn n p s t → IsUnderWay n p s → SentBy m k s → SentBy m k t
+pub still_sent : (n : NetProfile) (p : Plan) (s t : Staging) (m k : ℕ) → IsContinued n p s t → IsUnderWay n p s → SentBy m k s → SentBy m k t
 still_sent n p s t m k g u sent v is =
     let o = (g.goes u.initial u.staged).0 in
     let e : u.staged.world.sent ++ o.frames ≡ v.sent = sym o.sent ∙ frames_same t.kept t.boards t.boards o.staged.world v o.staged.is is in
@@ -381,15 +382,6 @@ hears_along n s from mote dt word frame joined sent w is = go (frame_at w frame)
     go (Some f) h = subst (λ (k : ℕ). is_linked n.links k mote ≡ true) (sym h) joined
 
 -- ---- lines that are written are in their ranges
-
-pub fits_event : (motes : ℕ) (event : Event) → motes ≤ most_motes → FitsEvent motes event → FitsEvent most_motes event
-fits_event motes (Tick m dt word) few h = (omega (arith, few, h.0), h.1)
-fits_event motes (Hear m dt word frame) few h = ((omega (arith, few, h.0.0), h.0.1), h.1)
-fits_event motes (Last from to dt word) few h = (record { first = omega (arith, few, h.0.first); second = omega (arith, few, h.0.second); two = h.0.two }, h.1)
-fits_event motes (Reset m dt word) few h = (omega (arith, few, h.0), h.1)
-fits_event motes (Inject m image version dt word) few h = ((omega (arith, few, h.0.0), h.0.1), h.1)
-fits_event motes (Order m number image version dt word) few h = ((omega (arith, few, h.0.0), h.0.1, h.0.2, h.0.3, h.0.4), h.1)
-fits_event motes (Frame m dt word bytes) few h = ((omega (arith, few, h.0.0), h.0.1), h.1)
 
 pub event_fits : (n : NetProfile) (p : Plan) (s : Staging) (event : Event) → IsUnderWay n p s → IsRehearsed n.motes event → FitsEvent most_motes event
 event_fits n p s event u fits =

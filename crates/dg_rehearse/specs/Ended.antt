@@ -34,7 +34,7 @@ abbrev pub RunsImage : Plan → Option Running → Type 0
 RunsImage p runs = IsSomeAnd runs (λ r. (r.image_version.image ≡ p.image) × (r.image_version.version ≡ p.version))
 
 -- Every mote keeps it and, if it was ordered, runs it.
-pub record IsComplete (n : NetProfile) (p : Plan) (w : World) : Type 0 where
+pub record IsUpdateComplete (n : NetProfile) (p : Plan) (w : World) : Type 0 where
   pub keeps : (m : ℕ) → m < n.motes → KeepsPlanned p (store_at w m)
   pub runs : p.ordered ≡ true → (m : ℕ) → m < n.motes → RunsImage p (site w m).runs
 
@@ -45,7 +45,7 @@ turn_room = 16 * 64
 -- What each ending means for the last world and the script: every mote has the image, the schedule lasted the minutes that
 -- were asked for, the script has as many events as it may have, or it has no room for another turn.
 abbrev pub EndsAs : Ending → NetProfile → Plan → World → (script : List ℕ) → Type 0
-EndsAs Complete n p w script = IsComplete n p w
+EndsAs Complete n p w script = IsUpdateComplete n p w
 EndsAs OutOfTime n p w script = p.minutes * 60000 ≤ w.moment
 EndsAs TooMany n p w script = w.events ≡ most_events
 EndsAs TooLong n p w script = most_used_bytes < length script + turn_room

@@ -1,3 +1,4 @@
 pub mod Along
 pub mod Rehearsed
 pub mod Ended
+pub mod TrialScripts

@@ -180,15 +180,15 @@ pub record Onward (n : NetProfile) (p : Plan) (initial : List Device) (s : Stagi
   pub sent : staged.world.sent ≡ x.world.sent ++ frames
 
 -- It was continued, whatever the boards were before, by steps to a world such that P holds of both.
-pub record GoesOnBy (P : List Step → World → Type 0) (n : NetProfile) (p : Plan) (s t : Staging) : Type 0 where
+pub record IsContinuedBy (P : List Step → World → Type 0) (n : NetProfile) (p : Plan) (s t : Staging) : Type 0 where
   pub goes : (initial : List Device) (x : IsStaged n p initial s) → (o : Onward n p initial s x t) × P o.more o.staged.world
   pub events : s.kept.events ≤ t.kept.events
 
 abbrev pub Any : List Step → World → Type 0
 Any more w = Unit {0}
 
-abbrev pub GoesOn : NetProfile → Plan → (s t : Staging) → Type 0
-GoesOn n p s t = GoesOnBy Any n p s t
+abbrev pub IsContinued : NetProfile → Plan → (s t : Staging) → Type 0
+IsContinued n p s t = IsContinuedBy Any n p s t
 
 -- at least one more event was played
 abbrev pub MoreEvents : (s t : Staging) → Type 0
@@ -200,7 +200,7 @@ IsFull t = t.kept.events ≡ most_events
 
 -- exactly this step was played
 abbrev pub Makes : Step → NetProfile → Plan → (s t : Staging) → Type 0
-Makes x n p s t = GoesOnBy (λ more w. more ≡ x ∷ []) n p s t × MoreEvents s t
+Makes x n p s t = IsContinuedBy (λ more w. more ≡ x ∷ []) n p s t × MoreEvents s t
 
 -- ---- frames
 

@@ -87,7 +87,7 @@ pub(crate) fn write_opening(
 }
 
 /// The `golden` line.
-fn golden_line(alloc: Global) -> Result<Line, AllocError>
+pub(crate) fn golden_line(alloc: Global) -> Result<Line, AllocError>
     ensures { IfOk result (λ line. line ≡ Golden (codes "base") 0 (codes "A")) }
 {
     Ok(Line::Golden {

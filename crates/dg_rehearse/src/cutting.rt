@@ -1,7 +1,7 @@
 //! Resets whose power is cut within the start, at random moments.
 ghost use Rattle.std.specs.Prelude.{◌≡◌, ◌≤◌, map, Ok, OnOk, IfOk};
 ghost use Rattle.dg_script.specs.Fitting.{FitsCut};
-ghost use Rattle.dg_rehearse.specs.Rehearsed.{IsUnderWay, GoesOn, MoreEvents, IsFull, staging};
+ghost use Rattle.dg_rehearse.specs.Rehearsed.{IsUnderWay, IsContinued, MoreEvents, IsFull, staging};
 
 use crate::plan::Plan;
 use crate::schedule::Schedule;
@@ -32,7 +32,7 @@ impl Schedule {
     ) -> Result<Played, Halt>
         requires under_way { IsUnderWay profile.now plan.now (staging stage.old (map N.device boards.old.items)) }
         requires some { 1 ≤ profile.now.motes }
-        ensures goes_on { OnOk result (GoesOn profile.now plan.now (staging stage.old (map N.device boards.old.items))
+        ensures goes_on { OnOk result (IsContinued profile.now plan.now (staging stage.old (map N.device boards.old.items))
             (staging stage.new (map N.device boards.new.items))) }
         ensures events { result ≡ Ok Played.Done → MoreEvents (staging stage.old (map N.device boards.old.items))
             (staging stage.new (map N.device boards.new.items)) }

@@ -1,6 +1,7 @@
 //! Rehearsals: an update of a network simulated by the clock, with lost frames and power cuts, recorded as a script.
 //!
-//! The motes are those of a world over chips, so a replay of the script does the same.
+//! The motes are those of a world over chips, so a replay of the script does the same. The schedule of a trial is written as a
+//! script too.
 #![tactic(auto)]
 
 mod beginning;
@@ -14,8 +15,10 @@ mod schedule;
 mod stage;
 mod stop;
 mod telling;
+mod trial;
 mod turning;
 
 pub use call::rehearse;
 pub use plan::{Ending, Plan, Rehearsal};
 pub use stop::Stop;
+pub use trial::write_trial;

@@ -1,7 +1,7 @@
 //! How a rehearsal begins: each mote powers on, and the image is injected.
 ghost use Rattle.std.specs.Prelude.{◌≡◌, ◌<◌, map, Ok, OnOk};
 ghost use Rattle.dg_rehearse.specs.Ended.{HasBegun, OrdersImage};
-ghost use Rattle.dg_rehearse.specs.Rehearsed.{IsUnderWay, GoesOn, GoesOnBy, IsFull, staging};
+ghost use Rattle.dg_rehearse.specs.Rehearsed.{IsUnderWay, IsContinued, IsContinuedBy, IsFull, staging};
 
 use crate::plan::Plan;
 use crate::schedule::Schedule;
@@ -21,7 +21,7 @@ impl Schedule {
         boards: &mut Vec<N>,
     ) -> Result<(), Halt>
         requires under_way { IsUnderWay profile.now plan.now (staging stage.old (map N.device boards.old.items)) }
-        ensures goes_on { OnOk result (GoesOn profile.now plan.now (staging stage.old (map N.device boards.old.items))
+        ensures goes_on { OnOk result (IsContinued profile.now plan.now (staging stage.old (map N.device boards.old.items))
             (staging stage.new (map N.device boards.new.items))) }
     {
         for mote in 0..profile.motes {
@@ -41,7 +41,7 @@ impl Schedule {
     ) -> Result<Played, Halt>
         requires under_way { IsUnderWay profile.now plan.now (staging stage.old (map N.device boards.old.items)) }
         requires known { mote < profile.now.motes }
-        ensures goes_on { OnOk result (GoesOn profile.now plan.now (staging stage.old (map N.device boards.old.items))
+        ensures goes_on { OnOk result (IsContinued profile.now plan.now (staging stage.old (map N.device boards.old.items))
             (staging stage.new (map N.device boards.new.items))) }
     {
         let word = self.draws.next();
@@ -58,9 +58,9 @@ impl Schedule {
         boards: &mut Vec<N>,
     ) -> Result<Played, Halt>
         requires under_way { IsUnderWay profile.now plan.now (staging stage.old (map N.device boards.old.items)) }
-        ensures goes_on { OnOk result (GoesOn profile.now plan.now (staging stage.old (map N.device boards.old.items))
+        ensures goes_on { OnOk result (IsContinued profile.now plan.now (staging stage.old (map N.device boards.old.items))
             (staging stage.new (map N.device boards.new.items))) }
-        ensures begun { result ≡ Ok Played.Done → GoesOnBy (λ more w. HasBegun plan.now more) profile.now plan.now
+        ensures begun { result ≡ Ok Played.Done → IsContinuedBy (λ more w. HasBegun plan.now more) profile.now plan.now
             (staging stage.old (map N.device boards.old.items))
             (staging stage.new (map N.device boards.new.items)) }
         ensures full { result ≡ Ok Played.TooMany → IsFull (staging stage.new (map N.device boards.new.items)) }
@@ -89,9 +89,9 @@ impl Schedule {
         boards: &mut Vec<N>,
     ) -> Result<Played, Halt>
         requires under_way { IsUnderWay profile.now plan.now (staging stage.old (map N.device boards.old.items)) }
-        ensures goes_on { OnOk result (GoesOn profile.now plan.now (staging stage.old (map N.device boards.old.items))
+        ensures goes_on { OnOk result (IsContinued profile.now plan.now (staging stage.old (map N.device boards.old.items))
             (staging stage.new (map N.device boards.new.items))) }
-        ensures ordered { result ≡ Ok Played.Done → GoesOnBy (λ more w. OrdersImage plan.now more) profile.now plan.now
+        ensures ordered { result ≡ Ok Played.Done → IsContinuedBy (λ more w. OrdersImage plan.now more) profile.now plan.now
             (staging stage.old (map N.device boards.old.items))
             (staging stage.new (map N.device boards.new.items)) }
         ensures full { result ≡ Ok Played.TooMany → IsFull (staging stage.new (map N.device boards.new.items)) }

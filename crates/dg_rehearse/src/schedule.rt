@@ -8,8 +8,8 @@ ghost use Rattle.dg_script.specs.Places.{is_linked};
 ghost use Rattle.dg_world.specs.Alone.{uncut};
 ghost use Rattle.dg_world.specs.Worlds.{IsWorld};
 ghost use Rattle.dg_rehearse.specs.Ended.{Ends, EndsNow, EndsBegun};
-ghost use Rattle.dg_rehearse.specs.Rehearsed.{IsRehearsed, IsUnderWay, GoesOn, GoesOnBy, Makes, MoreEvents, IsFull, staging};
-ghost use Rattle.dg_rehearse.specs.Rehearsed.{SendsOnly, SentBy, LastSentBy, GoesAlong, Staging};
+ghost use Rattle.dg_rehearse.specs.Rehearsed.{IsRehearsed, IsUnderWay, IsContinued, IsContinuedBy, Makes, MoreEvents};
+ghost use Rattle.dg_rehearse.specs.Rehearsed.{IsFull, SendsOnly, SentBy, LastSentBy, GoesAlong, Staging, staging};
 ghost use Rattle.dg_rehearse.specs.declared.plan.Ending.{Ending as End};
 ghost use Rattle.dg_rehearse.specs.declared.schedule.Coming.{Coming};
 ghost use Rattle.dg_rehearse.specs.declared.schedule.Next.{Next};
@@ -88,10 +88,10 @@ impl Schedule {
     ) -> Result<Ending, Halt>
         requires under_way { IsUnderWay profile.now plan.now (staging stage.old (map N.device boards.old.items)) }
         requires some { 1 ≤ profile.now.motes }
-        ensures goes_on { OnOk result (GoesOn profile.now plan.now (staging stage.old (map N.device boards.old.items))
+        ensures goes_on { OnOk result (IsContinued profile.now plan.now (staging stage.old (map N.device boards.old.items))
             (staging stage.new (map N.device boards.new.items))) }
         ensures ends { (e : End) → result ≡ Ok e
-            → GoesOnBy (EndsBegun e profile.now plan.now stage.new.script.items) profile.now plan.now
+            → IsContinuedBy (EndsBegun e profile.now plan.now stage.new.script.items) profile.now plan.now
             (staging stage.old (map N.device boards.old.items)) (staging stage.new (map N.device boards.new.items)) }
     {
         self.start_all(profile, plan, stage, boards)?;
@@ -112,10 +112,10 @@ impl Schedule {
     ) -> Result<Ending, Halt>
         requires under_way { IsUnderWay profile.now plan.now (staging stage.old (map N.device boards.old.items)) }
         requires some { 1 ≤ profile.now.motes }
-        ensures goes_on { OnOk result (GoesOn profile.now plan.now (staging stage.old (map N.device boards.old.items))
+        ensures goes_on { OnOk result (IsContinued profile.now plan.now (staging stage.old (map N.device boards.old.items))
             (staging stage.new (map N.device boards.new.items))) }
         ensures ends { (e : End) → result ≡ Ok e
-            → GoesOnBy (λ more w. Ends e profile.now plan.now stage.new.script.items w) profile.now plan.now
+            → IsContinuedBy (λ more w. Ends e profile.now plan.now stage.new.script.items w) profile.now plan.now
             (staging stage.old (map N.device boards.old.items)) (staging stage.new (map N.device boards.new.items)) }
     {
         for _ in 0..MOST_EVENTS {
@@ -137,10 +137,10 @@ impl Schedule {
     ) -> Result<Option<Ending>, Halt>
         requires under_way { IsUnderWay profile.now plan.now (staging stage.old (map N.device boards.old.items)) }
         requires some { 1 ≤ profile.now.motes }
-        ensures goes_on { OnOk result (GoesOn profile.now plan.now (staging stage.old (map N.device boards.old.items))
+        ensures goes_on { OnOk result (IsContinued profile.now plan.now (staging stage.old (map N.device boards.old.items))
             (staging stage.new (map N.device boards.new.items))) }
         ensures ends { (e : End) → result ≡ Ok (Some e)
-            → GoesOnBy (λ more w. Ends e profile.now plan.now stage.new.script.items w) profile.now plan.now
+            → IsContinuedBy (λ more w. Ends e profile.now plan.now stage.new.script.items w) profile.now plan.now
             (staging stage.old (map N.device boards.old.items)) (staging stage.new (map N.device boards.new.items)) }
         ensures events { result ≡ Ok None → MoreEvents
             (staging stage.old (map N.device boards.old.items)) (staging stage.new (map N.device boards.new.items)) }
@@ -161,10 +161,10 @@ impl Schedule {
         boards: &mut Vec<N>,
     ) -> Result<bool, Halt>
         requires under_way { IsUnderWay profile.now plan.now (staging stage.old (map N.device boards.old.items)) }
-        ensures goes_on { OnOk result (GoesOn profile.now plan.now (staging stage.old (map N.device boards.old.items))
+        ensures goes_on { OnOk result (IsContinued profile.now plan.now (staging stage.old (map N.device boards.old.items))
             (staging stage.new (map N.device boards.new.items))) }
         ensures complete { result ≡ Ok true
-            → GoesOnBy (λ more w. Ends End.Complete profile.now plan.now stage.new.script.items w) profile.now plan.now
+            → IsContinuedBy (λ more w. Ends End.Complete profile.now plan.now stage.new.script.items w) profile.now plan.now
             (staging stage.old (map N.device boards.old.items)) (staging stage.new (map N.device boards.new.items)) }
     {
         if !self.progress.is_complete(plan, profile.motes) {
@@ -185,10 +185,10 @@ impl Schedule {
     ) -> Result<Option<Ending>, Halt>
         requires under_way { IsUnderWay profile.now plan.now (staging stage.old (map N.device boards.old.items)) }
         requires some { 1 ≤ profile.now.motes }
-        ensures goes_on { OnOk result (GoesOn profile.now plan.now (staging stage.old (map N.device boards.old.items))
+        ensures goes_on { OnOk result (IsContinued profile.now plan.now (staging stage.old (map N.device boards.old.items))
             (staging stage.new (map N.device boards.new.items))) }
         ensures ends { (e : End) → result ≡ Ok (Some e)
-            → GoesOnBy (λ more w. Ends e profile.now plan.now stage.new.script.items w) profile.now plan.now
+            → IsContinuedBy (λ more w. Ends e profile.now plan.now stage.new.script.items w) profile.now plan.now
             (staging stage.old (map N.device boards.old.items)) (staging stage.new (map N.device boards.new.items)) }
         ensures events { result ≡ Ok None → MoreEvents
             (staging stage.old (map N.device boards.old.items)) (staging stage.new (map N.device boards.new.items)) }
@@ -272,7 +272,7 @@ impl Schedule {
         requires under_way { IsUnderWay profile.now plan.now (staging stage.old (map N.device boards.old.items)) }
         requires fits { IsRehearsed profile.now.motes event }
         requires along { GoesAlong profile.now event (staging stage.old (map N.device boards.old.items)) }
-        ensures goes_on { OnOk result (GoesOn profile.now plan.now (staging stage.old (map N.device boards.old.items))
+        ensures goes_on { OnOk result (IsContinued profile.now plan.now (staging stage.old (map N.device boards.old.items))
             (staging stage.new (map N.device boards.new.items))) }
         ensures makes { result ≡ Ok Played.Done → Makes (uncut event) profile.now plan.now
             (staging stage.old (map N.device boards.old.items))

@@ -8,7 +8,7 @@ ghost use Rattle.dg_rules.specs.Events.{mote_of, dt_of};
 ghost use Rattle.dg_world.specs.Alone.{uncut};
 ghost use Rattle.dg_world.specs.declared.world.WorldFault.{WorldFault};
 ghost use Rattle.dg_rehearse.specs.Ended.{Ends};
-ghost use Rattle.dg_rehearse.specs.Rehearsed.{IsPlanned, IsRehearsed, IsStaged, IsUnderWay, GoesOn, GoesOnBy};
+ghost use Rattle.dg_rehearse.specs.Rehearsed.{IsPlanned, IsRehearsed, IsStaged, IsUnderWay, IsContinued, IsContinuedBy};
 ghost use Rattle.dg_rehearse.specs.Rehearsed.{Makes, MoreEvents, IsFull};
 ghost use Rattle.dg_rehearse.specs.Rehearsed.{SendsOnly, GoesAlong, staging, written};
 ghost use Rattle.dg_rehearse.specs.declared.plan.Ending.{Ending};
@@ -80,7 +80,7 @@ impl Stage {
         requires under_way { IsUnderWay profile.now plan.now (staging self.old (map N.device boards.old.items)) }
         requires fits { IsRehearsed profile.now.motes event }
         requires along { GoesAlong profile.now event (staging self.old (map N.device boards.old.items)) }
-        ensures goes_on { OnOk result (GoesOn profile.now plan.now (staging self.old (map N.device boards.old.items))
+        ensures goes_on { OnOk result (IsContinued profile.now plan.now (staging self.old (map N.device boards.old.items))
             (staging self.new (map N.device boards.new.items))) }
         ensures makes { result ≡ Ok Played.Done → Makes (uncut event) profile.now plan.now
             (staging self.old (map N.device boards.old.items)) (staging self.new (map N.device boards.new.items)) }
@@ -116,7 +116,7 @@ impl Stage {
         requires cut { FitsCut cut }
         requires fits { IsRehearsed profile.now.motes event }
         requires along { GoesAlong profile.now event (staging self.old (map N.device boards.old.items)) }
-        ensures goes_on { OnOk result (GoesOn profile.now plan.now (staging self.old (map N.device boards.old.items))
+        ensures goes_on { OnOk result (IsContinued profile.now plan.now (staging self.old (map N.device boards.old.items))
             (staging self.new (map N.device boards.new.items))) }
         ensures events { result ≡ Ok Played.Done → MoreEvents (staging self.old (map N.device boards.old.items))
             (staging self.new (map N.device boards.new.items)) }
@@ -146,10 +146,10 @@ impl Stage {
         boards: &mut Vec<N>,
     ) -> Result<bool, Halt>
         requires under_way { IsUnderWay profile.now plan.now (staging self.old (map N.device boards.old.items)) }
-        ensures goes_on { OnOk result (GoesOn profile.now plan.now (staging self.old (map N.device boards.old.items))
+        ensures goes_on { OnOk result (IsContinued profile.now plan.now (staging self.old (map N.device boards.old.items))
             (staging self.new (map N.device boards.new.items))) }
         ensures complete { result ≡ Ok true
-            → GoesOnBy (λ more w. Ends Ending.Complete profile.now plan.now self.new.script.items w) profile.now plan.now
+            → IsContinuedBy (λ more w. Ends Ending.Complete profile.now plan.now self.new.script.items w) profile.now plan.now
             (staging self.old (map N.device boards.old.items)) (staging self.new (map N.device boards.new.items)) }
     {
         self.reports.clear();

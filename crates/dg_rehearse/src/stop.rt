@@ -16,6 +16,17 @@ pub enum Stop {
     Size,
 }
 
+impl From<AllocError> for Stop {
+    ghost use Rattle.std.specs.Prelude.{◌≡◌};
+    ghost use Rattle.dg_rehearse.specs.declared.stop.Stop.{Stop};
+
+    ghost from_gives = { λ _ e. e ≡ Stop.Memory };
+
+    fn from(_: AllocError) -> Stop {
+        Stop::Memory
+    }
+}
+
 /// Why a rehearsal that is under way is given up.
 #[derive(Clone, Copy)]
 pub(crate) enum Halt {

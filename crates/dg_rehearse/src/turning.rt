@@ -4,7 +4,7 @@ ghost use Rattle.dg_netcfg.specs.declared.profile.NetProfile.{NetProfile as Prof
 ghost use Rattle.dg_rules.specs.Events.{mote_of};
 ghost use Rattle.dg_script.specs.Places.{is_linked};
 ghost use Rattle.dg_rehearse.specs.Along.{AreNeighbours};
-ghost use Rattle.dg_rehearse.specs.Rehearsed.{IsRehearsed, IsUnderWay, GoesOn, MoreEvents, IsFull, Staging, staging};
+ghost use Rattle.dg_rehearse.specs.Rehearsed.{IsRehearsed, IsUnderWay, IsContinued, MoreEvents, IsFull, Staging, staging};
 ghost use Rattle.dg_rehearse.specs.Rehearsed.{SentBy, LastSentBy, GoesAlong};
 ghost use Rattle.dg_rehearse.specs.declared.plan.Ending.{Ending as End};
 
@@ -29,7 +29,7 @@ impl Schedule {
     ) -> Result<Played, Halt>
         requires under_way { IsUnderWay profile.now plan.now (staging stage.old (map N.device boards.old.items)) }
         requires known { next.mote < profile.now.motes }
-        ensures goes_on { OnOk result (GoesOn profile.now plan.now (staging stage.old (map N.device boards.old.items))
+        ensures goes_on { OnOk result (IsContinued profile.now plan.now (staging stage.old (map N.device boards.old.items))
             (staging stage.new (map N.device boards.new.items))) }
         ensures events { result ≡ Ok Played.Done → MoreEvents (staging stage.old (map N.device boards.old.items))
             (staging stage.new (map N.device boards.new.items)) }
@@ -62,7 +62,7 @@ impl Schedule {
     ) -> Result<Played, Halt>
         requires under_way { IsUnderWay profile.now plan.now (staging stage.old (map N.device boards.old.items)) }
         requires sent { LastSentBy from before (staging stage.old (map N.device boards.old.items)) }
-        ensures goes_on { OnOk result (GoesOn profile.now plan.now (staging stage.old (map N.device boards.old.items))
+        ensures goes_on { OnOk result (IsContinued profile.now plan.now (staging stage.old (map N.device boards.old.items))
             (staging stage.new (map N.device boards.new.items))) }
         ensures full { result ≡ Ok Played.TooMany → IsFull (staging stage.new (map N.device boards.new.items)) }
     {
@@ -100,7 +100,7 @@ impl Schedule {
         requires numbered { 1 ≤ frame }
         requires sent { SentBy near.now.mote frame (staging stage.old (map N.device boards.old.items)) }
         requires near { AreNeighbours near.now.are profile.now.links near.now.mote }
-        ensures goes_on { OnOk result (GoesOn profile.now plan.now (staging stage.old (map N.device boards.old.items))
+        ensures goes_on { OnOk result (IsContinued profile.now plan.now (staging stage.old (map N.device boards.old.items))
             (staging stage.new (map N.device boards.new.items))) }
         ensures full { result ≡ Ok Played.TooMany → IsFull (staging stage.new (map N.device boards.new.items)) }
     {

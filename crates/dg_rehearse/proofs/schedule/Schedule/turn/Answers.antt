@@ -1,6 +1,6 @@
 use Rattle.std.proofs.Common.{ℕ, map, ap, subst}
 use Rattle.std.specs.Prelude.{Ok}
-use Rattle.dg_rehearse.specs.Rehearsed.{GoesOn, SendsAtMost, staging}
+use Rattle.dg_rehearse.specs.Rehearsed.{IsContinued, SendsAtMost, staging}
 use Rattle.dg_rehearse.proofs.PlayLemmas.{at_ok, goes_to, still_under_way, last_sent, more_then}
 use Rattle.dg_rehearse.proofs.schedule.Schedule.turn.Goals as goal
 
@@ -23,4 +23,4 @@ returns-in-Done-clause-goes_on g c = goes_to c.deliver.result _ _ _ _ _ c.in_ok-
 
 pub returns-in-Done-clause-events : goal.returns-in-Done-clause-events
 returns-in-Done-clause-events g c = λ e.
-    more_then c.args.profile.now c.args.plan.now (staging c.args.stage.now (map g.N.Nor.device c.args.boards.now.items)) (staging c.event.new.stage (map g.N.Nor.device c.event.new.boards.items)) (staging c.deliver.new.stage (map g.N.Nor.device c.deliver.new.boards.items)) (c.in_ok-played.ensures.makes (ap Ok c.in-Done.is)).1 (at_ok c.deliver.result _ (GoesOn c.args.profile.now c.args.plan.now (staging c.event.new.stage (map g.N.Nor.device c.event.new.boards.items)) (staging c.deliver.new.stage (map g.N.Nor.device c.deliver.new.boards.items))) e c.deliver.ensures.goes_on)
+    more_then c.args.profile.now c.args.plan.now (staging c.args.stage.now (map g.N.Nor.device c.args.boards.now.items)) (staging c.event.new.stage (map g.N.Nor.device c.event.new.boards.items)) (staging c.deliver.new.stage (map g.N.Nor.device c.deliver.new.boards.items)) (c.in_ok-played.ensures.makes (ap Ok c.in-Done.is)).1 (at_ok c.deliver.result _ (IsContinued c.args.profile.now c.args.plan.now (staging c.event.new.stage (map g.N.Nor.device c.event.new.boards.items)) (staging c.deliver.new.stage (map g.N.Nor.device c.deliver.new.boards.items))) e c.deliver.ensures.goes_on)
