@@ -19,8 +19,11 @@ returns-in-Ok-write-clause-done g c =
     c.replay_counted-status.new.out.faults (map device c.look.new.boards.items)
     (map device c.replay_counted-status.new.boards.items) c.new.ensures.items c.as_slice.ensures.value
     c.replay_counted-status.ensures.done (c.replay_counted-status.ensures.counted c.new-counter.ensures)
-    c.in-Ok-text_of.ensures (inl (refl, subst (λ (bytes : List ℕ). Puts a.written b.written bytes) c.deref.ensures.value
-    c.in-Ok-write.ensures.ok)))
+    c.in-Ok-text_of.ensures (inl (
+      refl,
+      subst (λ (bytes : List ℕ). Puts a.written b.written bytes) c.deref.ensures.value
+          c.in-Ok-write.ensures.ok,
+    )))
 
 pub returns-in-Ok-text_of-clause-done : goal.returns-in-Ok-text_of-clause-done
 returns-in-Ok-text_of-clause-done g c =
@@ -35,5 +38,9 @@ returns-in-Ok-text_of-clause-done g c =
     c.replay_counted-status.new.out.faults (map device c.look.new.boards.items)
     (map device c.replay_counted-status.new.boards.items) c.new.ensures.items c.as_slice.ensures.value
     c.replay_counted-status.ensures.done (c.replay_counted-status.ensures.counted c.new-counter.ensures)
-    c.in-Ok-text_of.ensures (inr (refl, subst (λ (bytes : List ℕ). PutsPrefix a.written b.written bytes) c.deref.ensures.value
-    c.in-Err-write.ensures.err, c.in-Err-write.ensures.failed)))
+    c.in-Ok-text_of.ensures (inr (
+      refl,
+      subst (λ (bytes : List ℕ). PutsPrefix a.written b.written bytes) c.deref.ensures.value
+          c.in-Err-write.ensures.err,
+      c.in-Err-write.ensures.failed,
+    )))

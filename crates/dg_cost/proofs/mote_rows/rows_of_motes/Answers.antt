@@ -22,9 +22,10 @@ loop-mote-preserved c =
     let counts : HasCounts (counts_at c.args.ended c.args.counter.now.events i) table =
     subst (λ (e : EventCounts). HasCounts e table) c.events_at-events.ensures c.in_ok-rows.ensures.counts in
     let power : HasRows (rows_of_power (slice_index_or c.args.times.now.motes i never_on) c.args.times.now.ms) table =
-    subst (λ (u : Uptime). HasRows (rows_of_power u c.args.times.now.ms) table) c.at.ensures c.in_ok-rows.ensures.power in
-    (ap length items ∙ length-append motes (rows ∷ []) ∙ ap (λ (n : ℕ). n + 1) before.0,
-    each_pushed (λ (m : ℕ) (r : Rows). HasCounts (counts_at c.args.ended c.args.counter.now.events m) (table_of_rows r)) motes
-    c.push.new.self.items rows i items before.0 before.1 counts,
-    each_pushed (λ (m : ℕ) (r : Rows). HasRows (rows_of_power (slice_index_or c.args.times.now.motes m never_on) c.args.times.now.ms) (table_of_rows r))
-    motes c.push.new.self.items rows i items before.0 before.2 power)
+    subst (λ (u : Uptime). HasRows (rows_of_power u c.args.times.now.ms) table) c.at.ensures c.in_ok-rows.ensures.power in (
+      ap length items ∙ length-append motes (rows ∷ []) ∙ ap (λ (n : ℕ). n + 1) before.0,
+      each_pushed (λ (m : ℕ) (r : Rows). HasCounts (counts_at c.args.ended c.args.counter.now.events m) (table_of_rows r)) motes
+          c.push.new.self.items rows i items before.0 before.1 counts,
+      each_pushed (λ (m : ℕ) (r : Rows). HasRows (rows_of_power (slice_index_or c.args.times.now.motes m never_on) c.args.times.now.ms) (table_of_rows r))
+          motes c.push.new.self.items rows i items before.0 before.2 power,
+    )
