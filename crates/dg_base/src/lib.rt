@@ -26,6 +26,3 @@ pub use outside::{ReadFailed, Sink, Source, WriteFailed};
 pub use sizes::{GREATEST_PORT, MOST_CONTENT, MOST_INPUT, MOST_MOTES, the_sizes_are_these};
 pub use standard::{StdSink, StdSource};
 pub use texts::{Bytes, is_name, next_line};
-
-#[cfg(test)]
-mod tests;

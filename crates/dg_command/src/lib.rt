@@ -26,6 +26,3 @@ pub use ranges::{
 pub use reading::{asked, flash_names};
 pub use roots::root_bytes;
 pub use wrong::misuse;
-
-#[cfg(test)]
-mod tests;

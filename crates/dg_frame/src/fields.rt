@@ -25,7 +25,7 @@ pub fn half_at(bytes: &[u8], at: usize) -> u16
 }
 
 /// The number of four bytes at an offset, the highest byte first.
-pub fn word_at(bytes: &[u8], at: usize) -> u32
+pub fn word_in(bytes: &[u8], at: usize) -> u32
     requires { at + 4 ≤ length bytes.now }
     ensures { result ≡ word_in bytes.now at }
 {
@@ -37,7 +37,7 @@ pub(crate) fn entry_at(bytes: &[u8], at: usize) -> Entry
     ensures { result ≡ entry_in_frame bytes.now at }
 {
     Entry {
-        version: word_at(bytes, at),
+        version: word_in(bytes, at),
         pages: bytes[at + 4],
         have: bytes[at + 5],
         crc: half_at(bytes, at + 6),
@@ -49,9 +49,9 @@ pub(crate) fn order_at(bytes: &[u8], at: usize) -> Order
     ensures { result ≡ order_at bytes.now at }
 {
     Order {
-        number: word_at(bytes, at),
+        number: word_in(bytes, at),
         image: bytes[at + 4],
-        version: word_at(bytes, at + 5),
+        version: word_in(bytes, at + 5),
     }
 }
 

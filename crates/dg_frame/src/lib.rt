@@ -19,7 +19,7 @@ use dg_base::LONGEST_FRAME;
 use dg_bits::PageBits;
 use dg_control::Order;
 use dg_object::{PACKET_SIZE, PACKETS};
-pub use fields::{half_at, word_at};
+pub use fields::{half_at, word_in};
 pub use laws::{one_reading, one_spelling, the_sizes_are_these};
 pub use ranges::in_range;
 pub use reading::{SHORTEST, has_crc_at, read};
@@ -102,6 +102,3 @@ pub enum FrameFault {
     /// A field is out of its range.
     Range,
 }
-
-#[cfg(test)]
-mod tests;

@@ -8,7 +8,7 @@ ghost use Rattle.dg_frame.specs.Spelling.{frame_of};
 ghost use Rattle.dg_frame.specs.Readings.{IsReading};
 ghost use Rattle.dg_frame.specs.Grammar.{half_at, entries_in, advert_in, request_in, packet_in_frame, wide_in, message_of};
 
-use crate::fields::{entry_at, half_at, order_at, set_at, word_at};
+use crate::fields::{entry_at, half_at, order_at, set_at, word_in};
 use crate::kind::{ADVERT_BYTES, Kind, PACKET_FRAME_BYTES, REQUEST_BYTES, WIDE_BYTES};
 use crate::ranges::in_range;
 use crate::{Entry, FrameFault, Message, NARROW_IMAGES, WIDE_IMAGES};
@@ -132,7 +132,7 @@ fn request(bytes: &[u8]) -> Message
         source: half_at(bytes, 1),
         to: half_at(bytes, 3),
         image: bytes[5],
-        version: word_at(bytes, 6),
+        version: word_in(bytes, 6),
         page: bytes[10],
         want: set_at(bytes, 11),
     }
@@ -147,7 +147,7 @@ fn packet(bytes: &[u8]) -> Message
     Message::Packet {
         source: half_at(bytes, 1),
         image: bytes[3],
-        version: word_at(bytes, 4),
+        version: word_in(bytes, 4),
         page: bytes[8],
         packet: bytes[9],
         bytes: carried,

@@ -11,10 +11,6 @@ pub record Inboxes : Type 0 where
 abbrev pub inbox_of : Inboxes → ℕ → List (List ℕ)
 inbox_of boxes mote = slice_index_or boxes.frames mote []
 
--- the last n of a list
-abbrev pub latest : {A : Type 0} → ℕ → List A → List A
-latest n xs = drop (length xs - n) xs
-
 -- this many motes, with empty inboxes
 abbrev pub emptied : ℕ → Inboxes → Inboxes
 emptied motes boxes = record { capacity = boxes.capacity; frames = replicate motes [] }
@@ -25,7 +21,8 @@ with_inbox mote frames boxes = record { capacity = boxes.capacity; frames = slic
 
 -- a frame arrived last at a mote. If its inbox was full, the oldest is lost
 abbrev pub delivered : ℕ → List ℕ → Inboxes → Inboxes
-delivered mote frame boxes = with_inbox mote (latest boxes.capacity (inbox_of boxes mote ++ frame ∷ [])) boxes
+delivered mote frame boxes =
+    let frames = inbox_of boxes mote ++ frame ∷ [] in with_inbox mote (drop (length frames - boxes.capacity) frames) boxes
 
 -- No frame waits at the mote; nothing is claimed if the inboxes are not exposed.
 abbrev pub IsEmptyAt : ℕ → Option Inboxes → Type 0

@@ -8,6 +8,3 @@ mod memory;
 pub use failing::FailLink;
 pub use link::{Link, LinkFailed, OpenFault};
 pub use memory::MemLink;
-
-#[cfg(test)]
-mod tests;

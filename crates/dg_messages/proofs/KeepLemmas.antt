@@ -12,7 +12,7 @@ use Rattle.dg_netcfg.specs.declared.profile.ProfileFault.TheVariants as profile
 use Rattle.dg_script.specs.Faults.{fault_name}
 use Rattle.dg_script.specs.declared.fault.LineFault.{LineFault}
 use Rattle.dg_script.specs.declared.fault.LineFault.TheVariants as lines
-use Rattle.dg_script.proofs.WordsReadLemmas.{number}
+use Rattle.dg_lines.proofs.WordsReadLemmas.{number}
 use Rattle.dg_end.specs.Lines.{bad_line, last_line, refusal_text}
 use Rattle.dg_end.specs.Texts.{line, numbers}
 use Rattle.dg_end.specs.declared.ends.End.{End}

@@ -19,7 +19,7 @@ use Rattle.dg_script.specs.Faults.{fault_name}
 use Rattle.dg_script.specs.Words.{split_of, words_of, behind_spaces}
 use Rattle.dg_script.specs.declared.fault.LineFault.{LineFault}
 use Rattle.dg_script.specs.declared.fault.LineFault.TheVariants as lines
-use Rattle.dg_script.proofs.WordsReadLemmas.{IsWord, words_spaced, number, hex_lacks}
+use Rattle.dg_lines.proofs.WordsReadLemmas.{IsWord, words_spaced, number, hex_lacks}
 use Rattle.dg_end.specs.Lines.{bad_line, last_line, refusal_text, status_of}
 use Rattle.dg_end.specs.Texts.{line, numbers}
 use Rattle.dg_end.specs.declared.ends.End.{End}

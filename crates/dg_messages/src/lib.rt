@@ -20,6 +20,3 @@ pub use reading::{Causes, told};
 pub use sentences::push_sentence;
 pub use showing::shown;
 pub use streams::{Input, Output};
-
-#[cfg(test)]
-mod tests;

@@ -24,6 +24,3 @@ pub use size::{
     PACKET_SIZE, PACKETS, PAGE_SIZE, PacketBytes, SIZE_OF_DESCRIPTOR_PIECE, SIZE_OF_HEAD,
     SIZE_OF_PACKET, SLOTS, SizeFault, check_size, pages_of,
 };
-
-#[cfg(test)]
-mod tests;

@@ -27,6 +27,3 @@ pub const ESCAPED_FLAG: u8 = 0x5E;
 
 /// What stands for the escape itself after an escape.
 pub const ESCAPED_ESCAPE: u8 = 0x5D;
-
-#[cfg(test)]
-mod tests;

@@ -11,8 +11,3 @@ pub use keys::{KeyTextFault, read_key};
 pub use lines::signed_line;
 pub use signatures::{SignatureTextFault, read_signature};
 pub use verifying::{VerifyFault, verify_image};
-
-#[cfg(test)]
-mod key_tests;
-#[cfg(test)]
-mod tests;

@@ -107,6 +107,7 @@ impl Trickle {
     }
 
     /// Advances the timer to the time `now`.
+    #[inline(always)]
     pub fn tick(&mut self, now: u64, word: u32) -> Act
         requires { now < 2 ^ 62 }
         ensures act { result ≡ act_of self.old now }

@@ -30,6 +30,3 @@ pub const TREE_HEIGHT: usize = 10;
 
 /// The last of the tree's 1,024 leaves.
 pub const LAST_INDEX: u32 = 1_023;
-
-#[cfg(test)]
-mod tests;

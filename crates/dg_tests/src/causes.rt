@@ -1,8 +1,10 @@
 //! The line of some causes. The cause in a last line, and the sentence of each cause, are clauses.
 
-use crate::{Causes, InputFault, Misuse, OutputFault, Reads, Refused, Told, message, shown, told};
 use dg_base::Status;
 use dg_drip_script::DripFault;
+use dg_messages::{
+    Causes, InputFault, Misuse, OutputFault, Reads, Refused, Told, message, shown, told,
+};
 use dg_net::LinkCause;
 use dg_nor::FileFault;
 use std::test::Fail;

@@ -1,6 +1,6 @@
 //! A link in memory by hand.
-use crate::{Link, MemLink};
 use dg_base::LONGEST_FRAME;
+use dg_link::{Link, MemLink};
 use std::test::Fail;
 
 #[test]

@@ -1,4 +1,10 @@
-use super::*;
+//! Tests of `dg_base`.
+
+use dg_base::{
+    Bytes, Clock, Cut, Event, FrameBytes, HexFault, ImageVersion, MemSink, MemSource, Pairs,
+    ReadFailed, Sink, Source, Status, StdSink, StdSource, Step, StepClock, WriteFailed, crc16,
+    crc16_more, is_name, next_line, parse_hex, parse_u32, push_hex, push_u32,
+};
 use std::io;
 use std::io::{Read, Write};
 use std::test::Fail;

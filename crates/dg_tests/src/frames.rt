@@ -1,10 +1,10 @@
 //! Frames byte for byte, and each refusal.
 ghost use Rattle.std.specs.Prelude.{◌≡◌};
 
-use crate::{Entry, Frame, FrameFault, Message, read, write};
 use dg_base::crc16;
 use dg_bits::PageBits;
 use dg_control::Order;
+use dg_frame::{Entry, Frame, FrameFault, Message, read, write};
 use std::test::Fail;
 
 /// The request from 1 to 0 for packets 0 and 47 of page 0 of image 1, version 1. The CRC is that of Python's

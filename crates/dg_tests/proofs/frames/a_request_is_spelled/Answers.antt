@@ -4,7 +4,7 @@ use Rattle.std.specs.FinSet as set
 use Rattle.dg_bits.specs.Sets.{Numbers}
 use Rattle.dg_bits.proofs.SetLaws.{contains-put, contains-none}
 use Rattle.dg_frame.proofs.ReadingLemmas.{ranges}
-use Rattle.dg_frame.proofs.tests.a_request_is_spelled.Goals as goal
+use Rattle.dg_tests.proofs.frames.a_request_is_spelled.Goals as goal
 
 -- a set to which a number was put is not empty
 not_empty : (s t : Numbers) → t ≡ set.insert s 47 → t ≡ set.empty → ⊥

@@ -1,6 +1,6 @@
 //! Signatures that `botan` made, and two that no honest maker makes: one by a leaf after the last, and one whose root differs
 //! from that of the key in one bit.
-use crate::{KeyFault, PublicKey, SignatureFault, verify};
+use dg_xmss::{KeyFault, PublicKey, SignatureFault, verify};
 use std::test::Fail;
 
 const OWN_KEY: &[u8] = b"\

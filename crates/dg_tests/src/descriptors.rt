@@ -1,4 +1,9 @@
-use super::*;
+//! Tests of `dg_object`.
+
+use dg_object::{
+    DESCRIPTOR_PIECE, Descriptor, DescriptorFault, HEAD_SIZE, MOST_BYTES, PAGE_SIZE, SizeFault,
+    check_size, page_of, pages_of, profile_of,
+};
 use std::test::Fail;
 
 const DIGITS: &[u8; 9] = b"123456789";

@@ -1,6 +1,6 @@
 //! A line that `botan` signed, and signatures as files have them.
-use crate::{SignatureTextFault, VerifyFault, read_signature, signed_line, verify_image};
 use base64::DecodeError;
+use dg_sign::{SignatureTextFault, VerifyFault, read_signature, signed_line, verify_image};
 use dg_xmss::{PublicKey, SIGNATURE_SIZE, SignatureFault};
 use std::test::Fail;
 

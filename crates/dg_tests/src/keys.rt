@@ -1,6 +1,6 @@
 //! A public key as `botan` wrote it, and texts that differ from it.
-use crate::{KeyTextFault, read_key};
 use base64::DecodeError;
+use dg_sign::{KeyTextFault, read_key};
 use dg_xmss::{KeyFault, PublicKey};
 use std::alloc::Global;
 use std::test::Fail;

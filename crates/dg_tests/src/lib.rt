@@ -1,0 +1,30 @@
+//! Tests of what no clause says of the crates that stand below a network: a file for each. A crate with tests is proved twice, so
+//! these are in a crate of their own.
+#![tactic(auto)]
+
+#[cfg(test)]
+mod causes;
+#[cfg(test)]
+mod chips;
+#[cfg(test)]
+mod counts;
+#[cfg(test)]
+mod descriptors;
+#[cfg(test)]
+mod frames;
+#[cfg(test)]
+mod keys;
+#[cfg(test)]
+mod lines;
+#[cfg(test)]
+mod links;
+#[cfg(test)]
+mod outside;
+#[cfg(test)]
+mod signatures;
+#[cfg(test)]
+mod signed;
+#[cfg(test)]
+mod turns;
+#[cfg(test)]
+mod values;
