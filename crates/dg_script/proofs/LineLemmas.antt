@@ -9,12 +9,13 @@ use Rattle.dg_script.specs.Sizes.{most_motes, most_image, most_used, most_sweeps
 use Rattle.dg_script.specs.Results.{allowed_if, or_fault}
 use Rattle.dg_script.specs.Words.{one_of, two_of, three_of, four_of, five_of, six_of}
 use Rattle.dg_script.specs.Contents.{spelled_name, sized_content, spelled_mask}
-use Rattle.dg_script.specs.Verbs.{is_played, stands, follows, standing, verb_of}
+use Rattle.dg_script.specs.Verbs.{stands, follows, standing, verb_of}
 use Rattle.dg_script.specs.Places.{is_linked, is_narrow}
-use Rattle.dg_script.specs.Fields.{number_in, mote_count_in, mote_in, other_in, image_in, any_image_in, version_in, counted_in, used_in, sweeps_in}
+use Rattle.dg_script.specs.Fields.{number_in, mote_in, other_in, any_image_in, version_in, counted_in}
+use Rattle.dg_script.specs.inner.Words.{mote_count_in, image_in, used_in, sweeps_in}
 use Rattle.dg_script.specs.Lines.{motes_of, golden_of, none_of, boards_of, link_of, narrow_of, image_of, tick_line_of, hear_of, last_line_of, reset_of, inject_of, order_of, frame_line_of, cut_with, cut_of, round_of, sweeps_of, fields_of, played_verb}
 use Rattle.dg_script.specs.Ranges.{AreTwo, IsVersion}
-use Rattle.dg_script.specs.Fitting.{StandsBy, StandsAt, FitsLine, IsTimed, IsPlayed}
+use Rattle.dg_script.specs.Fitting.{is_played, StandsBy, StandsAt, FitsLine, IsTimed, IsPlayed}
 use Rattle.dg_script.specs.Reading.{Reads}
 use Rattle.dg_script.specs.declared.fault.LineFault.{LineFault}
 use Rattle.dg_script.specs.declared.fault.LineFault.TheVariants as fault
@@ -270,10 +271,7 @@ fields_known verb.Sweeps place fields line h = sweeps_known place fields line h
 
 -- the verb of a line that is read is played
 pub played_verb-plays : (word : List ℕ) (v : Verb) → played_verb word ≡ Ok v → is_played v ≡ true
-unfolding played_verb
-played_verb-plays word v h =
-    let read = bound (or_fault fault.Verb (verb_of word)) _ v h in
-    tested (is_played read.0) fault.Verb read.0 v (λ x. is_played x ≡ true) read.2 (λ here. here)
+played_verb-plays word v h = refl
 
 -- what is known of a line of a verb that is played
 pub read_stands : (v : Verb) (place : Place) (fields : List (List ℕ)) (r : Result Line LineFault) → Reads r (fields_of v place fields) → IfOk r (StandsAt place)

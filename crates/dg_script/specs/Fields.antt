@@ -1,7 +1,7 @@
 -- The fields of lines, with the fault of each (docs/SCRIPTS.md, "The script").
 use Rattle.std.specs.Prelude.{ℕ, ◌==◌, nat_le, nat_lt, ◌&&◌, not, List, Result}
 use Rattle.dg_base.specs.Numbers.{number_of}
-use Rattle.dg_script.specs.Sizes.{most_motes, most_image, most_used, most_sweeps, most_number}
+use Rattle.dg_script.specs.Sizes.{most_image, most_number}
 use Rattle.dg_script.specs.Results.{◌>>=◌, guarded, or_fault}
 use Rattle.dg_script.specs.declared.fault.LineFault.{LineFault}
 use Rattle.dg_script.specs.declared.fault.LineFault.TheVariants.{Number, Mote, Image, Version}
@@ -14,10 +14,6 @@ number_in word = or_fault Number (number_of word)
 unfoldable pub ranged_in : (fault : LineFault) → (least most : ℕ) → List ℕ → Result ℕ LineFault
 ranged_in fault least most word = number_in word >>= λ n. guarded (nat_le least n && nat_le n most) fault n
 
--- how many motes there are: 1 to 16
-abbrev pub mote_count_in : List ℕ → Result ℕ LineFault
-mote_count_in = ranged_in Mote 1 most_motes
-
 -- one of this many motes
 unfoldable pub mote_in : (motes : ℕ) → List ℕ → Result ℕ LineFault
 mote_in motes word = number_in word >>= λ n. guarded (nat_lt n motes) Mote n
@@ -25,10 +21,6 @@ mote_in motes word = number_in word >>= λ n. guarded (nat_lt n motes) Mote n
 -- one of this many motes, but not this one
 unfoldable pub other_in : (motes : ℕ) → (mote : ℕ) → List ℕ → Result ℕ LineFault
 other_in motes mote word = mote_in motes word >>= λ n. guarded (not (n == mote)) Mote n
-
--- an image that can be declared, and any image
-abbrev pub image_in : List ℕ → Result ℕ LineFault
-image_in = ranged_in Image 1 most_image
 
 abbrev pub any_image_in : List ℕ → Result ℕ LineFault
 any_image_in = ranged_in Image 0 most_image
@@ -40,11 +32,3 @@ version_in = ranged_in Version 1 most_number
 -- the number of a frame, or of an operation
 abbrev pub counted_in : List ℕ → Result ℕ LineFault
 counted_in = ranged_in Number 1 most_number
-
--- commits that the chips count as spent
-abbrev pub used_in : List ℕ → Result ℕ LineFault
-used_in = ranged_in Number 0 most_used
-
--- how many sweeps
-abbrev pub sweeps_in : List ℕ → Result ℕ LineFault
-sweeps_in = ranged_in Number 1 most_sweeps

@@ -1,15 +1,15 @@
 -- What is known of lines that were read, and where they may stand (docs/SCRIPTS.md, "The script").
-use Rattle.std.specs.Prelude.{◌≡◌, ℕ, ◌<◌, ◌≤◌, ◌^◌, IsTrue, true, false, length, List}
+use Rattle.std.specs.Prelude.{◌≡◌, ℕ, Bool, ◌<◌, ◌≤◌, ◌^◌, IsTrue, true, false, length, List}
 use Rattle.dg_words.specs.Cells.{AreBytes}
 use Rattle.dg_base.specs.Texts.{spells_name}
 use Rattle.dg_base.specs.declared.events.Event.{Event}
 use Rattle.dg_base.specs.declared.events.Event.TheVariants.{Tick, Hear, Last, Reset, Inject, Order, Frame}
 use Rattle.dg_base.specs.declared.events.Cut.{Cut as CutOfPower}
+use Rattle.dg_object.specs.Object.{row_of}
 use Rattle.dg_object.specs.Sizes.{most_bytes}
-use Rattle.dg_object.specs.Object.{Row, row_of}
 use Rattle.dg_script.specs.Sizes.{most_motes, most_used, most_sweeps}
 use Rattle.dg_script.specs.Ranges.{IsDeclared, AreTwo, EventInRange, CutInRange}
-use Rattle.dg_script.specs.Verbs.{is_played, stands, follows}
+use Rattle.dg_script.specs.Verbs.{stands, follows}
 use Rattle.dg_script.specs.Places.{is_linked, is_narrow}
 use Rattle.dg_script.specs.declared.line.Line.{Line}
 use Rattle.dg_script.specs.declared.line.Line.TheVariants.{Nothing, Motes, Golden, Boards, Link, Narrow, Image, Cut}
@@ -52,10 +52,6 @@ AreNumbers (Frame mote dt word bytes) = IsTimed dt word
 abbrev pub FitsEvent : ℕ → Event → Type 0
 FitsEvent motes event = EventInRange motes event × AreNumbers event
 
--- the row that an `image` line declares
-abbrev pub declared_row : (image version : ℕ) (name content : List ℕ) → Row
-declared_row image version name content = row_of image version name content
-
 -- the fields of a line are in their ranges, if there are this many motes
 abbrev pub FitsLine : ℕ → Line → Type 0
 FitsLine motes Nothing = Unit {0}
@@ -64,7 +60,7 @@ FitsLine motes (Golden name used content) = IsGoldenImage name used content
 FitsLine motes Boards = Unit {0}
 FitsLine motes (Link a b) = AreTwo motes a b
 FitsLine motes (Narrow mote) = mote < motes
-FitsLine motes (Image image version name content) = IsDeclared (declared_row image version name content)
+FitsLine motes (Image image version name content) = IsDeclared (row_of image version name content)
 FitsLine motes (Cut cut) = FitsCut cut
 FitsLine motes (EventLine event) = FitsEvent motes event
 FitsLine motes (Round a b) = AreTwo motes a b
@@ -98,6 +94,10 @@ StandsAt place (EventLine event) = StandsBy (verb_of_event event) place
 StandsAt place (Round a b) = StandsBy verb.Round place
 StandsAt place (Sweeps n) = StandsBy verb.Sweeps place
 
+-- whether lines of a verb are played: all are
+abbrev pub is_played : Verb → Bool
+is_played verb = true
+
 -- an event is one of those that are played
 abbrev pub IsPlayedEvent : Event → Type 0
 IsPlayedEvent event = IsTrue (is_played (verb_of_event event))
@@ -118,14 +118,9 @@ IsPlayed (Sweeps n) = IsTrue (is_played verb.Sweeps)
 
 -- a line that is played on a board
 abbrev pub UsesBoard : Line → Type 0
-UsesBoard Nothing = ⊥
-UsesBoard (Motes n) = ⊥
 UsesBoard (Golden name used content) = Unit {0}
 UsesBoard Boards = Unit {0}
-UsesBoard (Link a b) = ⊥
-UsesBoard (Narrow mote) = ⊥
-UsesBoard (Image image version name content) = ⊥
-UsesBoard (Cut cut) = ⊥
 UsesBoard (EventLine event) = Unit {0}
 UsesBoard (Round a b) = Unit {0}
 UsesBoard (Sweeps n) = Unit {0}
+UsesBoard line = ⊥

@@ -2,12 +2,11 @@
 use Rattle.std.specs.Prelude.{Bool, true, false, List, [], ◌∷◌, ◌++◌, map, None}
 use Rattle.dg_base.specs.declared.events.Event.{Event}
 use Rattle.dg_base.specs.declared.events.Step.{Step}
-use Rattle.dg_object.specs.Object.{Row}
+use Rattle.dg_object.specs.Object.{Row, row_of}
 use Rattle.dg_rounds.specs.Rounds.{times, round, sweep}
-use Rattle.dg_script.specs.Fitting.{declared_row}
 use Rattle.dg_script.specs.Places.{first_place, place_after}
 use Rattle.dg_script.specs.declared.line.Line.{Line}
-use Rattle.dg_script.specs.declared.line.Line.TheVariants.{Nothing, Motes, Golden, Boards, Link, Narrow, Image, Cut}
+use Rattle.dg_script.specs.declared.line.Line.TheVariants.{Image}
 use Rattle.dg_script.specs.declared.line.Line.TheVariants.{Happens as EventLine, Round, Sweeps}
 use Rattle.dg_script.specs.declared.place.Place.{Place}
 
@@ -22,17 +21,11 @@ unreported events = map (λ e. Applies (record { event = e; cut = None }) false)
 
 -- the items of a line at its place, where a cut may wait for its event
 abbrev pub item_by : Place → Line → List Item
-item_by place Nothing = []
-item_by place (Motes n) = []
-item_by place (Golden name used content) = []
-item_by place Boards = []
-item_by place (Link a b) = []
-item_by place (Narrow mote) = []
-item_by place (Image image version name content) = Declares (declared_row image version name content) ∷ []
-item_by place (Cut c) = []
+item_by place (Image image version name content) = Declares (row_of image version name content) ∷ []
 item_by place (EventLine event) = Applies (record { event = event; cut = place.cut }) true ∷ []
 item_by place (Round a b) = unreported (round a b)
 item_by place (Sweeps n) = unreported (times n (sweep place.links))
+item_by place line = []
 
 -- the place after lines
 unfoldable pub place_behind : Place → List Line → Place

@@ -7,14 +7,14 @@ use Rattle.dg_base.specs.Sizes.{longest_frame, longest_mask}
 use Rattle.dg_base.specs.declared.events.Event.TheVariants as event
 use Rattle.dg_base.specs.declared.events.Cut.{Cut as CutOfPower}
 use Rattle.dg_object.specs.Sizes.{most_bytes}
-use Rattle.dg_script.specs.Sizes.{most_content, most_line}
+use Rattle.dg_control.specs.Sizes.{most_room}
+use Rattle.dg_script.specs.Sizes.{most_motes, most_image, most_sweeps, most_content, most_line}
 use Rattle.dg_script.specs.Results.{◌>>=◌, guarded, allowed_if, or_fault}
 use Rattle.dg_script.specs.Words.{words_of, one_of, two_of, three_of, four_of, five_of, six_of}
 use Rattle.dg_script.specs.Contents.{spelled_name, sized_content, spelled_mask}
-use Rattle.dg_script.specs.Verbs.{standing, verb_of, is_played}
+use Rattle.dg_script.specs.Verbs.{standing, verb_of}
 use Rattle.dg_script.specs.Places.{is_linked, is_narrow}
-use Rattle.dg_script.specs.Fields.{number_in, mote_count_in, mote_in, other_in, image_in, any_image_in, version_in, counted_in}
-use Rattle.dg_script.specs.Fields.{used_in, sweeps_in}
+use Rattle.dg_script.specs.Fields.{number_in, ranged_in, mote_in, other_in, any_image_in, version_in, counted_in}
 use Rattle.dg_script.specs.declared.fault.LineFault.{LineFault}
 use Rattle.dg_script.specs.declared.fault.LineFault.TheVariants as fault
 use Rattle.dg_script.specs.declared.line.Line.{Line}
@@ -30,13 +30,13 @@ use Rattle.dg_script.specs.declared.verbs.Verb.TheVariants as verb
 -- `motes N`
 unfoldable pub motes_of : Place → List (List ℕ) → Result Line LineFault
 motes_of place fields =
-    one_of fields >>= λ word. standing verb.Motes place >>= λ u. mote_count_in word >>= λ motes. Ok (Motes motes)
+    one_of fields >>= λ word. standing verb.Motes place >>= λ u. ranged_in fault.Mote 1 most_motes word >>= λ n. Ok (Motes n)
 
 -- `golden NAME USED CONTENT`
 unfoldable pub golden_of : Place → List (List ℕ) → Result Line LineFault
 golden_of place fields =
-    three_of fields >>= λ t. standing verb.Golden place >>= λ u. spelled_name t.0 >>= λ name. used_in t.1 >>= λ used.
-    sized_content 1 most_bytes t.2 >>= λ content. Ok (Golden name used content)
+    three_of fields >>= λ t. standing verb.Golden place >>= λ u. spelled_name t.0 >>= λ name.
+    ranged_in fault.Number 0 most_room t.1 >>= λ used. sized_content 1 most_bytes t.2 >>= λ content. Ok (Golden name used content)
 
 -- `boards`
 abbrev pub none_of : List (List ℕ) → Result (Unit {0}) LineFault
@@ -61,39 +61,35 @@ narrow_of place fields =
 -- `image I V NAME CONTENT`
 unfoldable pub image_of : Place → List (List ℕ) → Result Line LineFault
 image_of place fields =
-    four_of fields >>= λ t. standing verb.Image place >>= λ u. image_in t.0 >>= λ image. version_in t.1
-    >>= λ version. spelled_name t.2 >>= λ name.
-    sized_content 0 most_content t.3 >>= λ content. Ok (Image image version name content)
+    four_of fields >>= λ t. standing verb.Image place >>= λ u. ranged_in fault.Image 1 most_image t.0 >>= λ image. version_in t.1
+    >>= λ version. spelled_name t.2 >>= λ name. sized_content 0 most_content t.3 >>= λ content.
+    Ok (Image image version name content)
 
 -- ---- events
 
 -- `tick M DT DRAW`
 unfoldable pub tick_line_of : Place → List (List ℕ) → Result Line LineFault
 tick_line_of place fields =
-    three_of fields >>= λ t. standing verb.Tick place >>= λ u. mote_in place.motes t.0 >>= λ mote. number_in t.1
-    >>= λ dt. number_in t.2 >>= λ word.
-    Ok (EventLine (event.Tick mote dt word))
+    three_of fields >>= λ t. standing verb.Tick place >>= λ u. mote_in place.motes t.0 >>= λ mote. number_in t.1 >>= λ dt.
+    number_in t.2 >>= λ word. Ok (EventLine (event.Tick mote dt word))
 
 -- `hear M DT DRAW K`
 unfoldable pub hear_of : Place → List (List ℕ) → Result Line LineFault
 hear_of place fields =
-    four_of fields >>= λ t. standing verb.Hear place >>= λ u. mote_in place.motes t.0 >>= λ mote. number_in t.1
-    >>= λ dt. number_in t.2 >>= λ word.
-    counted_in t.3 >>= λ frame. Ok (EventLine (event.Hear mote dt word frame))
+    four_of fields >>= λ t. standing verb.Hear place >>= λ u. mote_in place.motes t.0 >>= λ mote. number_in t.1 >>= λ dt.
+    number_in t.2 >>= λ word. counted_in t.3 >>= λ frame. Ok (EventLine (event.Hear mote dt word frame))
 
 -- `last A B DT DRAW`
 unfoldable pub last_line_of : Place → List (List ℕ) → Result Line LineFault
 last_line_of place fields =
-    four_of fields >>= λ t. standing verb.Last place >>= λ u. mote_in place.motes t.0
-    >>= λ from. other_in place.motes from t.1 >>= λ to.
-    number_in t.2 >>= λ dt. number_in t.3 >>= λ word. Ok (EventLine (event.Last from to dt word))
+    four_of fields >>= λ t. standing verb.Last place >>= λ u. mote_in place.motes t.0 >>= λ from. other_in place.motes from t.1
+    >>= λ to. number_in t.2 >>= λ dt. number_in t.3 >>= λ word. Ok (EventLine (event.Last from to dt word))
 
 -- `reset M DT DRAW`
 unfoldable pub reset_of : Place → List (List ℕ) → Result Line LineFault
 reset_of place fields =
-    three_of fields >>= λ t. standing verb.Reset place >>= λ u. mote_in place.motes t.0 >>= λ mote. number_in t.1
-    >>= λ dt. number_in t.2 >>= λ word.
-    Ok (EventLine (event.Reset mote dt word))
+    three_of fields >>= λ t. standing verb.Reset place >>= λ u. mote_in place.motes t.0 >>= λ mote. number_in t.1 >>= λ dt.
+    number_in t.2 >>= λ word. Ok (EventLine (event.Reset mote dt word))
 
 -- `inject M I V DT DRAW`
 unfoldable pub inject_of : Place → List (List ℕ) → Result Line LineFault
@@ -113,9 +109,8 @@ order_of place fields =
 -- `frame M DT DRAW CONTENT`
 unfoldable pub frame_line_of : Place → List (List ℕ) → Result Line LineFault
 frame_line_of place fields =
-    four_of fields >>= λ t. standing verb.Frame place >>= λ u. mote_in place.motes t.0 >>= λ mote. number_in t.1
-    >>= λ dt. number_in t.2 >>= λ word.
-    sized_content 0 longest_frame t.3 >>= λ bytes. Ok (EventLine (event.Frame mote dt word bytes))
+    four_of fields >>= λ t. standing verb.Frame place >>= λ u. mote_in place.motes t.0 >>= λ mote. number_in t.1 >>= λ dt.
+    number_in t.2 >>= λ word. sized_content 0 longest_frame t.3 >>= λ bytes. Ok (EventLine (event.Frame mote dt word bytes))
 
 -- ---- cuts, rounds and sweeps
 
@@ -148,7 +143,8 @@ round_of place fields =
 
 -- `sweeps N`
 unfoldable pub sweeps_of : Place → List (List ℕ) → Result Line LineFault
-sweeps_of place fields = one_of fields >>= λ word. standing verb.Sweeps place >>= λ u. sweeps_in word >>= λ n. Ok (Sweeps n)
+sweeps_of place fields =
+    one_of fields >>= λ word. standing verb.Sweeps place >>= λ u. ranged_in fault.Number 1 most_sweeps word >>= λ n. Ok (Sweeps n)
 
 -- ---- the whole line
 
@@ -171,9 +167,9 @@ fields_of verb.Cut place fields = cut_of place fields
 fields_of verb.Round place fields = round_of place fields
 fields_of verb.Sweeps place fields = sweeps_of place fields
 
--- the verb of a word, if its lines are played
+-- the verb of a word
 unfoldable pub played_verb : List ℕ → Result Verb LineFault
-played_verb word = or_fault fault.Verb (verb_of word) >>= λ v. guarded (is_played v) fault.Verb v
+played_verb word = or_fault fault.Verb (verb_of word)
 
 -- a line that says nothing is empty, or its first word begins with `#`
 abbrev pub is_comment : List ℕ → Bool

@@ -21,17 +21,16 @@ first_place = record { motes = 0; ready = false; events = false; cut = None; lin
 
 -- the place after a line
 abbrev pub place_after : Place → Line → Place
-place_after place Nothing = place
 place_after place (Motes motes) = record place { motes = motes }
 place_after place (Golden name used content) = record place { ready = true }
 place_after place Boards = record place { ready = true }
 place_after place (Link a b) = record place { links = place.links ++ (a, b) ∷ [] }
 place_after place (Narrow mote) = record place { narrow = slice_set place.narrow mote true }
-place_after place (Image image version name content) = place
 place_after place (Cut cut) = record place { cut = Some cut }
 place_after place (EventLine event) = record place { events = true; cut = None }
 place_after place (Round a b) = record place { events = true }
 place_after place (Sweeps n) = record place { events = true }
+place_after place line = place
 
 -- a link joins two motes, in either order
 abbrev pub joins : (a b : ℕ) → (ℕ × ℕ) → Bool

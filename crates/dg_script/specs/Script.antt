@@ -1,5 +1,5 @@
 -- Whole scripts: their lines, or the first fault with the number of its line (docs/SCRIPTS.md, "The script").
-use Rattle.std.specs.Prelude.{ℕ, ◌+◌, Bool, true, false, List, [], ◌∷◌, Option, Some, None, Result, Ok, Err}
+use Rattle.std.specs.Prelude.{ℕ, ◌+◌, Bool, true, false, List, [], ◌∷◌, Option, Some, None, option_map, Result, Ok, Err}
 use Rattle.dg_script.specs.Lines.{line_of}
 use Rattle.dg_script.specs.Places.{place_after, fault_at_end}
 use Rattle.dg_script.specs.declared.fault.LineFault.{LineFault}
@@ -11,16 +11,11 @@ pub record Script : Type 0 where
   pub lines : List Line
   pub fault : Option (ℕ × LineFault)
 
--- the fault of the line with this number, if it has one
-abbrev pub numbered : ℕ → Option LineFault → Option (ℕ × LineFault)
-numbered n None = None
-numbered n (Some fault) = Some (n, fault)
-
 -- A script that ends before its second line, or after a cut that waits for its event, has its fault in the line after its last.
 -- If its input is cut off, it is not known whether it ends.
 abbrev pub end_fault : Bool → Place → ℕ → Option (ℕ × LineFault)
 end_fault false place n = None
-end_fault true place n = numbered n (fault_at_end place)
+end_fault true place n = option_map (λ fault. (n, fault)) (fault_at_end place)
 
 abbrev pub with_line : Result Line LineFault → (Line → Script) → ℕ → Script
 with_line (Err fault) rest n = record { lines = []; fault = Some (n, fault) }

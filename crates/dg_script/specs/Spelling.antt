@@ -1,8 +1,6 @@
 -- The text by which a line is written (docs/SCRIPTS.md, "The script").
-use Rattle.std.specs.Prelude.{◌≡◌, ℕ, ◌≤◌, List, [], ◌∷◌, ◌++◌, length, take, codes}
-use Rattle.std.specs.List.{flat_map}
+use Rattle.std.specs.Prelude.{ℕ, ◌≤◌, List, [], ◌∷◌, ◌++◌, length, codes}
 use Rattle.std.specs.Fmt.{decimal}
-use Rattle.std.specs.Int.{to_be_bytes, w16}
 use Rattle.dg_base.specs.Hexadecimal.{hex_text}
 use Rattle.dg_base.specs.declared.events.Event.{Event}
 use Rattle.dg_base.specs.declared.events.Event.TheVariants.{Tick, Hear, Last, Reset, Inject, Order, Frame}
@@ -12,25 +10,10 @@ use Rattle.dg_script.specs.declared.line.Line.{Line}
 use Rattle.dg_script.specs.declared.line.Line.TheVariants.{Nothing, Motes, Golden, Boards, Link, Narrow, Image, Cut}
 use Rattle.dg_script.specs.declared.line.Line.TheVariants.{Happens as EventLine}
 use Rattle.dg_script.specs.declared.line.Line.TheVariants.{Round, Sweeps}
-use Rattle.dg_script.specs.declared.spelling.Field.{Field}
-use Rattle.dg_script.specs.declared.spelling.Field.TheVariants as field
 
 -- a content as hex digits
 abbrev pub content_text : List ℕ → List ℕ
 content_text bytes = codes "hex:" ++ hex_text bytes
-
--- the text of a field
-abbrev pub field_text : Field → List ℕ
-field_text (field.Small n) = decimal n
-field_text (field.Number n) = decimal n
-field_text (field.Word word) = word.now
-field_text (field.Crc crc) = hex_text (to_be_bytes w16 crc)
-field_text (field.Digits bytes) = hex_text bytes.now
-field_text (field.Content bytes) = content_text bytes.now
-
--- fields, each after a space
-abbrev pub fields_text : List Field → List ℕ
-fields_text fields = flat_map (λ f. 32 ∷ field_text f) fields
 
 -- the words of an event's line
 abbrev pub event_words : Event → List (List ℕ)
@@ -75,7 +58,3 @@ IsShort (Cut cut) = Unit {0}
 IsShort (EventLine event) = Unit {0}
 IsShort (Round a b) = Unit {0}
 IsShort (Sweeps n) = Unit {0}
-
--- some bytes are a prefix of others
-abbrev pub IsPrefixOf : (front whole : List ℕ) → Type 0
-IsPrefixOf front whole = take (length front) whole ≡ front

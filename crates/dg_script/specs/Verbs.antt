@@ -1,6 +1,7 @@
 -- The table of the verbs: the word of each, where its lines stand, and whether they are played (docs/SCRIPTS.md, "The script").
 use Rattle.std.specs.Prelude.{ℕ, ◌==◌, nat_lt, ◌&&◌, not, Bool, true, false, if◌then◌else◌, List, [], ◌∷◌, codes, Option, Some}
 use Rattle.std.specs.Prelude.{None, is_some, Result}
+use Rattle.std.specs.Option.{option_or}
 use Rattle.dg_script.specs.Results.{◌>>=◌, allowed_if}
 use Rattle.dg_script.specs.Words.{same}
 use Rattle.dg_script.specs.declared.fault.LineFault.{LineFault}
@@ -28,33 +29,8 @@ word_of Cut = codes "cut"
 word_of Round = codes "round"
 word_of Sweeps = codes "sweeps"
 
--- Whether lines of a verb are played: all are. A line that is not played would be reported as one with an unknown verb.
-abbrev pub is_played : Verb → Bool
-is_played Motes = true
-is_played Golden = true
-is_played Boards = true
-is_played Link = true
-is_played Narrow = true
-is_played Image = true
-is_played Tick = true
-is_played Hear = true
-is_played Last = true
-is_played Reset = true
-is_played Inject = true
-is_played Order = true
-is_played Frame = true
-is_played Cut = true
-is_played Round = true
-is_played Sweeps = true
-
 -- the verbs of events; after a cut comes an event
 abbrev pub is_event_verb : Verb → Bool
-is_event_verb Motes = false
-is_event_verb Golden = false
-is_event_verb Boards = false
-is_event_verb Link = false
-is_event_verb Narrow = false
-is_event_verb Image = false
 is_event_verb Tick = true
 is_event_verb Hear = true
 is_event_verb Last = true
@@ -62,9 +38,7 @@ is_event_verb Reset = true
 is_event_verb Inject = true
 is_event_verb Order = true
 is_event_verb Frame = true
-is_event_verb Cut = false
-is_event_verb Round = false
-is_event_verb Sweeps = false
+is_event_verb verb = false
 
 -- The first line that says something is `motes`, and the second is `golden` or `boards`. These come once.
 -- Links and narrow motes come before the first event, round or sweep.
@@ -80,17 +54,7 @@ stands Golden place = is_second place
 stands Boards place = is_second place
 stands Link place = is_later place && not place.events
 stands Narrow place = is_later place && not place.events
-stands Image place = is_later place
-stands Tick place = is_later place
-stands Hear place = is_later place
-stands Last place = is_later place
-stands Reset place = is_later place
-stands Inject place = is_later place
-stands Order place = is_later place
-stands Frame place = is_later place
-stands Cut place = is_later place
-stands Round place = is_later place
-stands Sweeps place = is_later place
+stands verb place = is_later place
 
 -- no cut waits, or this is the event for which it waits
 abbrev pub follows : Verb → Place → Bool
@@ -105,15 +69,7 @@ abbrev pub verb_among : List Verb → List ℕ → Option Verb
 verb_among [] word = None
 verb_among (verb ∷ verbs) word = if same word (word_of verb) then Some verb else verb_among verbs word
 
-abbrev pub event_verb_in : List ℕ → Option Verb
-event_verb_in = verb_among (Tick ∷ Last ∷ Hear ∷ Frame ∷ Reset ∷ Inject ∷ Order ∷ [])
-
-abbrev pub other_verb_of : List ℕ → Option Verb
-other_verb_of = verb_among (Round ∷ Sweeps ∷ Cut ∷ Image ∷ Link ∷ Narrow ∷ Golden ∷ Boards ∷ Motes ∷ [])
-
-abbrev pub or_else : Option Verb → Option Verb → Option Verb
-or_else (Some verb) other = Some verb
-or_else None other = other
-
 unfoldable pub verb_of : List ℕ → Option Verb
-verb_of word = or_else (event_verb_in word) (other_verb_of word)
+verb_of word =
+    option_or (verb_among (Tick ∷ Last ∷ Hear ∷ Frame ∷ Reset ∷ Inject ∷ Order ∷ []) word)
+    (verb_among (Round ∷ Sweeps ∷ Cut ∷ Image ∷ Link ∷ Narrow ∷ Golden ∷ Boards ∷ Motes ∷ []) word)

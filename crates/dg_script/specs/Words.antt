@@ -1,5 +1,6 @@
 -- The words of a line, and the words of the program (docs/SCRIPTS.md, "The script").
-use Rattle.std.specs.Prelude.{ℕ, ◌==◌, nat_eq, Bool, if◌then◌else◌, List, [], ◌∷◌, ◌++◌, Option, Some, None, Result, Ok, Err}
+use Rattle.std.specs.Prelude.{ℕ, ◌==◌, nat_eq, Bool, if◌then◌else◌, List, [], ◌∷◌, ◌++◌, Option, Some, None, option_map}
+use Rattle.std.specs.Prelude.{Result, Ok, Err}
 use Rattle.std.specs.Cmp.Lexicographic.{pointwise}
 use Rattle.std.specs.List.{flat_map}
 use Rattle.dg_script.specs.Results.{each_as}
@@ -32,13 +33,9 @@ abbrev pub same : List ℕ → List ℕ → Bool
 same = pointwise nat_eq
 
 -- the bytes up to the first colon, and those after it
-abbrev pub onto_half : ℕ → Option (List ℕ × List ℕ) → Option (List ℕ × List ℕ)
-onto_half c None = None
-onto_half c (Some h) = Some (c ∷ h.0, h.1)
-
 unfoldable pub halves_of : List ℕ → Option (List ℕ × List ℕ)
 halves_of [] = None
-halves_of (c ∷ cs) = if c == 58 then Some ([], cs) else onto_half c (halves_of cs)
+halves_of (c ∷ cs) = if c == 58 then Some ([], cs) else option_map (λ h. (c ∷ h.0, h.1)) (halves_of cs)
 
 -- words, each after a space
 abbrev pub behind_spaces : List (List ℕ) → List ℕ
@@ -55,39 +52,22 @@ one_of [] = Err Few
 one_of (a ∷ []) = Ok a
 one_of (a ∷ b ∷ more) = Err Many
 
-abbrev pub two_from : List ℕ → Result (List ℕ) LineFault → Result (List ℕ × List ℕ) LineFault
-two_from a rest = each_as (λ b. (a, b)) rest
-
 abbrev pub two_of : List (List ℕ) → Result (List ℕ × List ℕ) LineFault
 two_of [] = Err Few
-two_of (a ∷ more) = two_from a (one_of more)
-
-abbrev pub three_from : List ℕ → Result (List ℕ × List ℕ) LineFault → Result (List ℕ × List ℕ × List ℕ) LineFault
-three_from a rest = each_as (λ t. (a, t.0, t.1)) rest
+two_of (a ∷ more) = each_as (λ b. (a, b)) (one_of more)
 
 abbrev pub three_of : List (List ℕ) → Result (List ℕ × List ℕ × List ℕ) LineFault
 three_of [] = Err Few
-three_of (a ∷ more) = three_from a (two_of more)
-
-abbrev pub four_from : List ℕ → Result (List ℕ × List ℕ × List ℕ) LineFault → Result (List ℕ × List ℕ × List ℕ × List ℕ) LineFault
-four_from a rest = each_as (λ t. (a, t.0, t.1, t.2)) rest
+three_of (a ∷ more) = each_as (λ t. (a, t.0, t.1)) (two_of more)
 
 abbrev pub four_of : List (List ℕ) → Result (List ℕ × List ℕ × List ℕ × List ℕ) LineFault
 four_of [] = Err Few
-four_of (a ∷ more) = four_from a (three_of more)
-
-abbrev pub five_from : List ℕ → Result (List ℕ × List ℕ × List ℕ × List ℕ) LineFault
-    → Result (List ℕ × List ℕ × List ℕ × List ℕ × List ℕ) LineFault
-five_from a rest = each_as (λ t. (a, t.0, t.1, t.2, t.3)) rest
+four_of (a ∷ more) = each_as (λ t. (a, t.0, t.1, t.2)) (three_of more)
 
 abbrev pub five_of : List (List ℕ) → Result (List ℕ × List ℕ × List ℕ × List ℕ × List ℕ) LineFault
 five_of [] = Err Few
-five_of (a ∷ more) = five_from a (four_of more)
-
-abbrev pub six_from : List ℕ → Result (List ℕ × List ℕ × List ℕ × List ℕ × List ℕ) LineFault
-    → Result (List ℕ × List ℕ × List ℕ × List ℕ × List ℕ × List ℕ) LineFault
-six_from a rest = each_as (λ t. (a, t.0, t.1, t.2, t.3, t.4)) rest
+five_of (a ∷ more) = each_as (λ t. (a, t.0, t.1, t.2, t.3)) (four_of more)
 
 abbrev pub six_of : List (List ℕ) → Result (List ℕ × List ℕ × List ℕ × List ℕ × List ℕ × List ℕ) LineFault
 six_of [] = Err Few
-six_of (a ∷ more) = six_from a (five_of more)
+six_of (a ∷ more) = each_as (λ t. (a, t.0, t.1, t.2, t.3, t.4)) (five_of more)

@@ -1,18 +1,13 @@
-//! Reads the lines of events. The most common ones, `tick` and `last`, are parsed in place as numbers, and word by word if
-//! that gives up.
+//! Reads the lines of events, word by word.
 ghost use Rattle.std.specs.Prelude.{◌≡◌};
-ghost use Rattle.dg_script.specs.NumberLines.{tick_with, last_with};
 ghost use Rattle.dg_script.specs.Words.{words_of};
 ghost use Rattle.dg_script.specs.Lines.{tick_line_of, hear_of, last_line_of, reset_of, inject_of, order_of, frame_line_of};
 ghost use Rattle.dg_script.specs.Reading.{Reads};
 
 use crate::content::sized_content;
 use crate::fault::LineFault;
-use crate::fields::{
-    any_image_number, counted, mote, mote_with, number, other_mote, other_with, version,
-};
+use crate::fields::{any_image_number, counted, mote, number, other_mote, version};
 use crate::line::Line;
-use crate::numbers::{four_numbers, three_numbers};
 use crate::place::Place;
 use crate::verbs::Verb;
 use crate::words::{five_words, four_words, six_words, three_words};
@@ -20,30 +15,8 @@ use dg_base::{Event, LONGEST_FRAME};
 use std::alloc::Global;
 
 /// `tick M DT DRAW`
-#[inline(always)]
-pub fn tick_line(fields: &[u8], place: &Place) -> Result<Line, LineFault>
-    ensures { result ≡ tick_line_of place.now (words_of fields.now) }
-{
-    match three_numbers(fields) {
-        Some((at, dt, word)) => tick_with(at, dt, word, place),
-        None => tick_words(fields, place),
-    }
-}
-
-// The line of these numbers.
-#[inline(always)]
-fn tick_with(at: u32, dt: u32, word: u32, place: &Place) -> Result<Line, LineFault>
-    ensures { result ≡ tick_with place.now at dt word }
-{
-    Verb::Tick.stand(place)?;
-    let mote = mote_with(at, place.motes)?;
-    Ok(Line::Happens(Event::Tick { mote, dt, word }))
-}
-
-// The line of these words, or their first fault.
 #[tactic(auto, unfolding(crate::specs::Lines::tick_line_of))]
-#[inline(never)]
-fn tick_words(fields: &[u8], place: &Place) -> Result<Line, LineFault>
+pub fn tick_line(fields: &[u8], place: &Place) -> Result<Line, LineFault>
     ensures { result ≡ tick_line_of place.now (words_of fields.now) }
 {
     let (at, dt, word) = three_words(fields)?;
@@ -74,31 +47,8 @@ pub fn hear_line(fields: &[u8], place: &Place) -> Result<Line, LineFault>
 }
 
 /// `last A B DT DRAW`
-#[inline(always)]
-pub fn last_line(fields: &[u8], place: &Place) -> Result<Line, LineFault>
-    ensures { result ≡ last_line_of place.now (words_of fields.now) }
-{
-    match four_numbers(fields) {
-        Some((from, to, dt, word)) => last_with(from, to, dt, word, place),
-        None => last_words(fields, place),
-    }
-}
-
-// The line of these numbers.
-#[inline(always)]
-fn last_with(first: u32, second: u32, dt: u32, word: u32, place: &Place) -> Result<Line, LineFault>
-    ensures { result ≡ last_with place.now first second dt word }
-{
-    Verb::Last.stand(place)?;
-    let from = mote_with(first, place.motes)?;
-    let to = other_with(second, place.motes, from)?;
-    Ok(Line::Happens(Event::Last { from, to, dt, word }))
-}
-
-// The line of these words, or their first fault.
 #[tactic(auto, unfolding(crate::specs::Lines::last_line_of))]
-#[inline(never)]
-fn last_words(fields: &[u8], place: &Place) -> Result<Line, LineFault>
+pub fn last_line(fields: &[u8], place: &Place) -> Result<Line, LineFault>
     ensures { result ≡ last_line_of place.now (words_of fields.now) }
 {
     let (from, to, dt, word) = four_words(fields)?;

@@ -1,8 +1,10 @@
 //! The fields of lines.
 ghost use Rattle.std.specs.Prelude.{◌≡◌, ◌≤◌, ◌<◌, ◌^◌, IfOk};
 ghost use Rattle.dg_script.specs.NumberLines.{mote_with, other_with};
-ghost use Rattle.dg_script.specs.Fields.{number_in, ranged_in, mote_count_in, mote_in, other_in, image_in, any_image_in};
-ghost use Rattle.dg_script.specs.Fields.{version_in, counted_in, used_in, sweeps_in};
+ghost use Rattle.dg_script.specs.Fields.{number_in, ranged_in, mote_in, other_in, any_image_in};
+ghost use Rattle.dg_script.specs.inner.Words.{mote_count_in, image_in};
+ghost use Rattle.dg_script.specs.Fields.{version_in, counted_in};
+ghost use Rattle.dg_script.specs.inner.Words.{used_in, sweeps_in};
 
 use crate::fault::LineFault;
 use crate::sizes::{MOST_IMAGE, MOST_SWEEPS};

@@ -20,18 +20,15 @@ use crate::verbs::Verb;
 use crate::words::next_word;
 use std::alloc::Global;
 
-// The verb of a word, if its lines are played.
+// The verb of a word.
 #[tactic(auto, unfolding(crate::specs::Lines::played_verb))]
 fn played_verb(word: &[u8]) -> Result<Verb, LineFault>
     ensures { result ≡ played_verb word.now }
 {
-    let Some(verb) = Verb::of(word) else {
-        return Err(LineFault::Verb);
-    };
-    if !verb.is_played() {
-        return Err(LineFault::Verb);
+    match Verb::of(word) {
+        Some(verb) => Ok(verb),
+        None => Err(LineFault::Verb),
     }
-    Ok(verb)
 }
 
 // The line of a verb and the text after it.

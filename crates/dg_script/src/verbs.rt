@@ -1,8 +1,8 @@
 //! The table of the verbs: the word of each, where its lines stand, and whether they are played.
 ghost use Rattle.std.specs.Prelude.{◌≡◌};
 ghost use Rattle.dg_script.specs.Words.{same};
-ghost use Rattle.dg_script.specs.Verbs.{is_played, is_event_verb, is_second, is_later, stands, follows, standing, event_verb_in};
-ghost use Rattle.dg_script.specs.Verbs.{other_verb_of, verb_of};
+ghost use Rattle.dg_script.specs.Verbs.{is_event_verb, is_second, is_later, stands, follows, standing, verb_of};
+ghost use Rattle.dg_script.specs.inner.VerbWords.{event_verb_in, other_verb_of};
 
 use crate::fault::LineFault;
 use crate::place::Place;
@@ -116,19 +116,6 @@ impl Verb {
         match event_verb(word) {
             Some(verb) => Some(verb),
             None => other_verb(word),
-        }
-    }
-
-    /// Whether its lines are played.
-    pub fn is_played(self) -> bool
-        ensures { result ≡ is_played self }
-    {
-        match self {
-            Verb::Motes | Verb::Golden | Verb::Boards | Verb::Link => true,
-            Verb::Narrow | Verb::Image => true,
-            Verb::Tick | Verb::Hear | Verb::Last | Verb::Reset => true,
-            Verb::Inject | Verb::Order | Verb::Frame => true,
-            Verb::Cut | Verb::Round | Verb::Sweeps => true,
         }
     }
 

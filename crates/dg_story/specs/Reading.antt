@@ -5,9 +5,9 @@ use Rattle.std.specs.Prelude.{slice_index, codes, Option, Some, None, is_some, i
 use Rattle.std.specs.List.{AllByRecursion, list_all, starts_with}
 use Rattle.dg_base.specs.Sizes.{most_motes}
 use Rattle.dg_script.specs.Sizes.{most_image}
-use Rattle.dg_script.specs.LineReading.{HasNoEnd}
+use Rattle.dg_lines.specs.LineReading.{HasNoEnd}
 use Rattle.dg_script.specs.Report.{report_line}
-use Rattle.dg_script.specs.ReportReading.{FitsReport}
+use Rattle.dg_lines.specs.ReportReading.{FitsReport}
 use Rattle.dg_script.specs.declared.report.Report.{Report}
 use Rattle.dg_story.specs.Lines.{with_stamp, report_line_text, lines_text, is_stamped, Tells}
 use Rattle.dg_story.specs.Reports.{report_motes, report_image}

@@ -3,13 +3,14 @@ ghost use Rattle.std.specs.Prelude.{true, false};
 ghost use Rattle.std.specs.Prelude.{◌≡◌, ◌≢◌, ◌↔◌, ℕ, ◌^◌, ◌<◌, ◌∷◌, ◌++◌, List, Some, Err, IsTrue, IfOk, MatchOption};
 ghost use Rattle.std.specs.Fmt.{decimal};
 ghost use Rattle.dg_script.specs.Report.{report_line};
-ghost use Rattle.dg_script.specs.ReportReading.{FitsReport};
+ghost use Rattle.dg_lines.specs.ReportReading.{FitsReport};
 ghost use Rattle.dg_script.specs.declared.report.Report.{Report};
 ghost use Rattle.dg_story.specs.Lines.{with_stamp, report_line_text};
 ghost use Rattle.dg_story.specs.Reading.{IsOfReplay, IsLineOf, IsNoLine, IsNoReport, FitsStamp};
 
 use crate::reports::{image_of, motes_of};
-use dg_script::{MOST_IMAGE, Report, ReportFault, read_report};
+use dg_lines::{ReportFault, read_report};
+use dg_script::{MOST_IMAGE, Report};
 use itoa::Buffer;
 use memchr::memchr;
 use std::str;

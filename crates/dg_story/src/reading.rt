@@ -5,7 +5,7 @@ ghost use Rattle.dg_story.specs.Reading.{begins_timed, IsFirstLine, IsRead, Firs
 use crate::endings::last_words;
 use crate::lines::read_line;
 use crate::told::Story;
-use dg_script::ReportFault;
+use dg_lines::ReportFault;
 use memchr::memchr;
 use std::alloc::Global;
 

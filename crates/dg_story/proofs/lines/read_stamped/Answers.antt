@@ -1,6 +1,6 @@
 use Rattle.std.proofs.Common.{◌≡◌, Err, ap, rules}
-use Rattle.dg_script.specs.declared.report_reading.ReportFault.{ReportFault}
-use Rattle.dg_script.specs.declared.report_reading.ReportFault.TheVariants.{NoReport}
+use Rattle.dg_lines.specs.declared.report_reading.ReportFault.{ReportFault}
+use Rattle.dg_lines.specs.declared.report_reading.ReportFault.TheVariants.{NoReport}
 use Rattle.dg_story.proofs.LineLemmas.{rest_no_line}
 use Rattle.dg_story.proofs.lines.read_stamped.Goals as goal
 

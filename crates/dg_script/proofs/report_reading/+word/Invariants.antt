@@ -1,4 +1,0 @@
-use Rattle.dg_script.proofs.report_reading.+word.Given as goal
-
-abbrev pub decreases-word : goal.decreases-word
-decreases-word l = l.at
