@@ -3,6 +3,4 @@ pub mod PageLemmas
 pub mod ImageLemmas
 pub mod StartingLemmas
 pub mod FactsLemmas
-pub mod ByteLemmas
-pub mod BreakLemmas
 pub mod SeenLemmas

@@ -2,8 +2,6 @@ pub mod Chip
 pub mod Pages
 pub mod Starts
 pub mod Facts
-pub mod Bytes
-pub mod Breaks
 pub mod Seen
 pub mod Files
 pub mod Numbers

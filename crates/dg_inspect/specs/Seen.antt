@@ -7,7 +7,7 @@ use Rattle.dg_volume.specs.Sizes.{images}
 use Rattle.dg_volume.specs.Store.{App, Store, held}
 use Rattle.dg_volume.specs.Stands.{Stands, IsNoVolume}
 use Rattle.dg_inspect.specs.Pages.{ShowsPages, ShowsKept}
-use Rattle.dg_inspect.specs.Breaks.{BreaksAt}
+use Rattle.dg_breaks.specs.Breaks.{BreaksAt}
 use Rattle.dg_inspect.specs.Starts.{ShowsNext, order_state}
 use Rattle.dg_inspect.specs.declared.seen.ChipSeen.{ChipSeen}
 use Rattle.dg_inspect.specs.declared.seen.ChipSeen.TheVariants.{Volume, Broken}

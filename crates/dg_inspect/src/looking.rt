@@ -5,17 +5,16 @@ ghost use Rattle.dg_control.specs.Store.{HasForm};
 ghost use Rattle.dg_volume.specs.Sizes.{images};
 ghost use Rattle.dg_volume.specs.Store.{App, Store, held};
 ghost use Rattle.dg_volume.specs.Told.{program_told};
-ghost use Rattle.dg_volume.specs.Stands.{HoldsApp, IsVolume, Mounted, IsMounted};
-ghost use Rattle.dg_inspect.specs.Breaks.{BreaksAt};
+ghost use Rattle.dg_volume.specs.Stands.{HoldsApp, Mounted, IsMounted};
 ghost use Rattle.dg_inspect.specs.Pages.{ShowsKept};
 ghost use Rattle.dg_inspect.specs.Seen.{ShowsProgram, ShowsStore, ShowsChip, LookEnds};
 
-use crate::breaks::first_break;
 use crate::images::see_image;
 use crate::orders::order_state;
 use crate::pages::see_whole;
-use crate::seen::{Break, ChipSeen, ImageSeen, ImageVersion, LookFault, ProgramSeen, VolumeSeen};
+use crate::seen::{ChipSeen, ImageSeen, ImageVersion, LookFault, ProgramSeen, VolumeSeen};
 use crate::starting::next_start;
+use dg_breaks::first_break;
 use dg_control::{IMAGES, Program};
 use dg_nor::{Nor, Stopped};
 use dg_slot::PROGRAM_SECTOR;
@@ -86,19 +85,6 @@ fn see_volume<N: Nor>(alloc: Global, nor: &mut N, volume: &Volume) -> Result<Vol
         program,
         images,
     })
-}
-
-/// The first condition of a volume that a chip does not meet. None if it is a volume.
-pub fn find_break<N: Nor>(nor: &mut N) -> Result<Option<Break>, Stopped>
-    ensures first { IfOk result (λ found. IfSome found (BreaksAt (N.device nor.old).image)) }
-    ensures none { IfOk result (λ found. IsNone found → IsVolume (N.device nor.old).image) }
-    ensures ends { ReadEnds result (N.device nor.old) (N.device nor.new) }
-{
-    match Volume::mount(nor) {
-        Ok(_) => Ok(None),
-        Err(MountFault::Stopped) => Err(Stopped),
-        Err(MountFault::NotAVolume) => Ok(Some(first_break(nor)?)),
-    }
 }
 
 /// What a chip shows, whatever its bytes are.

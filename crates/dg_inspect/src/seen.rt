@@ -1,5 +1,6 @@
 //! What a chip shows, as values.
 use dg_bits::PageBits;
+use dg_breaks::Break;
 use dg_chain::DIGEST_SIZE;
 use dg_control::IMAGES;
 use dg_object::{Descriptor, MOST_PAGES};
@@ -118,32 +119,6 @@ pub struct VolumeSeen {
     pub program: Option<ProgramSeen>,
     /// What is kept of each image, by its number.
     pub images: Vec<Option<ImageSeen>>,
-}
-
-/// A condition of a volume.
-#[derive(Clone, Copy, Debug, PartialEq, Eq)]
-pub enum Condition {
-    /// Sector 0 is a ledger.
-    Ledger,
-    /// The control sector whose places count has a committed place, and the last one is a snapshot.
-    Snapshot,
-    /// Slot 0 keeps golden whole.
-    Golden,
-    /// The slot of this image, where it is Live, has a header of its version.
-    Header { image: u8 },
-    /// Page 0 of this image, where it is complete, is the descriptor that the header keeps the CRC of.
-    Descriptor { image: u8 },
-    /// Program memory begins with the descriptor of the image that it is set to.
-    Program,
-}
-
-/// The first condition of a volume that a chip does not meet, in their order, and where it breaks: a
-/// sector, and the first byte of it that is not as the condition needs it.
-#[derive(Clone, Copy, Debug, PartialEq, Eq)]
-pub struct Break {
-    pub condition: Condition,
-    pub sector: u32,
-    pub byte: u32,
 }
 
 /// The numbers that may be used next: a version of each image, and the number of an order.

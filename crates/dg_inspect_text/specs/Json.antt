@@ -13,13 +13,13 @@ use Rattle.dg_bits.specs.Sets.{Numbers}
 use Rattle.dg_control.specs.Sizes.{most_room}
 use Rattle.dg_control.specs.declared.snapshot.Order.{Order}
 use Rattle.dg_object.specs.Sizes.{most_pages}
-use Rattle.dg_inspect.specs.declared.seen.Break.{Break}
+use Rattle.dg_breaks.specs.declared.condition.Break.{Break}
 use Rattle.dg_inspect.specs.declared.seen.BytesSeen.{BytesSeen}
 use Rattle.dg_inspect.specs.declared.seen.ChainSeen.{ChainSeen}
 use Rattle.dg_inspect.specs.declared.seen.ChipSeen.{ChipSeen}
 use Rattle.dg_inspect.specs.declared.seen.ChipSeen.TheVariants as chip
-use Rattle.dg_inspect.specs.declared.seen.Condition.{Condition}
-use Rattle.dg_inspect.specs.declared.seen.Condition.TheVariants as condition
+use Rattle.dg_breaks.specs.declared.condition.Condition.{Condition}
+use Rattle.dg_breaks.specs.declared.condition.Condition.TheVariants as condition
 use Rattle.dg_inspect.specs.declared.seen.FileSeen.{FileSeen}
 use Rattle.dg_inspect.specs.declared.seen.FileSeen.TheVariants as file
 use Rattle.dg_inspect.specs.declared.seen.ImageSeen.{ImageSeen}

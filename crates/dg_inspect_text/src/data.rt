@@ -9,10 +9,10 @@ use crate::images::{complete_value, images_value};
 use crate::report::{Moment, Report};
 use crate::texts::{condition_text, kind_text, order_text, reason_text};
 use crate::values::{large_value, line_of, number_value, text_value};
+use dg_breaks::Break;
 use dg_control::{MOST_ROOM, Order};
 use dg_inspect::{
-    Break, ChipSeen, FileSeen, ImageVersion, NextNumbers, NextStart, OrderState, ProgramSeen,
-    VolumeSeen,
+    ChipSeen, FileSeen, ImageVersion, NextNumbers, NextStart, OrderState, ProgramSeen, VolumeSeen,
 };
 use serde_json::{Map, Value, put};
 use std::alloc::{AllocError, Global};

@@ -2,10 +2,10 @@
 use crate::report::{Moment, Report};
 use crate::texts::{condition_text, order_text, reason_text};
 use dg_bits::PageBits;
+use dg_breaks::Break;
 use dg_control::MOST_ROOM;
 use dg_inspect::{
-    Break, ChipSeen, FileSeen, ImageSeen, NextNumbers, NextStart, PagesSeen, ProgramSeen,
-    VolumeSeen,
+    ChipSeen, FileSeen, ImageSeen, NextNumbers, NextStart, PagesSeen, ProgramSeen, VolumeSeen,
 };
 use std::alloc::{AllocError, Global};
 use std::str;

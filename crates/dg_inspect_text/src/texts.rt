@@ -2,8 +2,9 @@
 ghost use Rattle.std.specs.Prelude.{◌≡◌};
 ghost use Rattle.dg_inspect_text.specs.Json.{condition_word, order_word, reason_word, side_word, kind_word, verdict_word};
 
+use dg_breaks::Condition;
 use dg_compare::{Side, Verdict};
-use dg_inspect::{Condition, FileSeen, OrderState, StartReason};
+use dg_inspect::{FileSeen, OrderState, StartReason};
 
 /// The condition of a volume that a chip does not meet.
 pub fn condition_text(condition: Condition) -> &'static str

@@ -1,8 +1,8 @@
 use Rattle.std.proofs.Common.{List, ℕ, sym, subst, rules}
 use Rattle.dg_control.specs.Store.{HasForm}
-use Rattle.dg_boot.proofs.ReadLemmas.{Looked_then}
+use Rattle.dg_slot.proofs.ReadLemmas.{Looked_then}
 use Rattle.dg_volume.specs.Stands.{IsNoVolume, Mounted}
-use Rattle.dg_inspect.specs.Breaks.{BreaksAt}
+use Rattle.dg_breaks.specs.Breaks.{BreaksAt}
 use Rattle.dg_inspect.proofs.looking.look.Goals as goal
 
 pub first_break-requires : goal.first_break-requires
