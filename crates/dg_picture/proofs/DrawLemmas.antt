@@ -2,14 +2,14 @@
 use Rattle.std.proofs.Common.{◌≡◌, ℕ, ◌+◌, List, ◌++◌, ap, ◌∙◌, append_assoc}
 use Rattle.std.proofs.Math.Path.{fun_ext}
 use Rattle.std.specs.BTreeMap.{BTreeMap}
-use Rattle.dg_picture.specs.Counts.{held}
+use Rattle.dg_layout.specs.Counts.{held}
 use Rattle.dg_story.specs.Reports.{largest}
-use Rattle.dg_picture.specs.Layout.{left_of}
+use Rattle.dg_layout.specs.Layout.{left_of}
 use Rattle.dg_picture.specs.Picture.{turn_text, step_text, version_text, mark_text}
 use Rattle.dg_story.specs.declared.told.Told.{Told}
 use Rattle.dg_story.specs.declared.reports.Pages.{Pages}
 use Rattle.dg_story.specs.declared.reports.Mark.{Mark}
-use Rattle.dg_picture.specs.declared.layout.Grid.{Grid}
+use Rattle.dg_layout.specs.declared.layout.Grid.{Grid}
 
 pub turn_here : (grid : Grid) (heights : ℕ → ℕ) (k left base at old new : ℕ) → left ≡ left_of grid k → base ≡ at → old ≡ heights k → new ≡ heights (k + 1)
     → turn_text left base old new ≡ step_text grid at heights k

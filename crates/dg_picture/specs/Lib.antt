@@ -1,5 +1,3 @@
-pub mod Counts
-pub mod Layout
 pub mod Texts
 pub mod Picture
 pub mod Drawn

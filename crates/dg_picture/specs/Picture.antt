@@ -5,9 +5,9 @@ use Rattle.std.specs.List.{list_any}
 use Rattle.std.specs.Fmt.{decimal}
 use Rattle.dg_story.specs.Lines.{told_of, end_of}
 use Rattle.dg_story.specs.Reports.{largest, total, is_marked, ended_of}
-use Rattle.dg_picture.specs.Layout.{each, grid_of, left_of, right_of, column, shown, is_on, rows_of, lane_bottom}
-use Rattle.dg_picture.specs.Layout.{middle, foot, height_of}
-use Rattle.dg_picture.specs.Layout.{changes_of}
+use Rattle.dg_layout.specs.Layout.{each, grid_of, left_of, right_of, column, shown, is_on, rows_of, lane_bottom}
+use Rattle.dg_layout.specs.Layout.{middle, foot, height_of}
+use Rattle.dg_layout.specs.Layout.{changes_of}
 use Rattle.dg_picture.specs.Texts.{form_of, class_of, head_text, moment_text}
 use Rattle.dg_story.specs.declared.lines.Line.{Line}
 use Rattle.dg_story.specs.declared.told.Told.{Told}
@@ -16,8 +16,8 @@ use Rattle.dg_story.specs.declared.reports.Ended.{Ended}
 use Rattle.dg_story.specs.declared.reports.Ended.TheVariants as ended
 use Rattle.dg_story.specs.declared.reports.Mark.{Mark}
 use Rattle.dg_story.specs.declared.reports.Mark.TheVariants.{Started, Ordered, Lost}
-use Rattle.dg_picture.specs.declared.layout.Grid.{Grid}
-use Rattle.dg_picture.specs.declared.layout.Frame.{Frame}
+use Rattle.dg_layout.specs.declared.layout.Grid.{Grid}
+use Rattle.dg_layout.specs.declared.layout.Frame.{Frame}
 use Rattle.dg_words.specs.Lists.{concatenated}
 
 -- ---- steps: a line as high at each column as was reported last, from the left end of the columns to their right end

@@ -7,6 +7,7 @@ use Rattle.dg_story.specs.declared.reports.Mark.TheVariants as mark
 use Rattle.dg_picture.specs.declared.pieces.Piece.{Piece}
 use Rattle.dg_picture.specs.declared.pieces.Piece.TheVariants as piece
 use Rattle.dg_picture.specs.declared.texts.TheConstants.{LEGEND}
+use Rattle.dg_layout.specs.Layout.{height_to}
 use Rattle.dg_words.specs.Lists.{concatenated}
 
 -- the form of a mark, from the left end of its lane's bottom: a triangle for a start, a diamond for an order, a cross for a
@@ -24,10 +25,6 @@ class_of mark.Lost = codes "x"
 -- title, colours and legend
 unfoldable pub legend : List ℕ
 legend = LEGEND.now
-
--- the height of a picture whose rows end here
-abbrev pub height_to : (foot : ℕ) → ℕ
-height_to foot = foot + 24
 
 abbrev pub first_text : (foot : ℕ) → List ℕ
 first_text foot =

@@ -1,11 +1,11 @@
 //! Draws the axis, and the end of a report that did not end well.
 ghost use Rattle.std.specs.Prelude.{◌≡◌, ◌++◌, ◌+◌, ◌*◌, ◌/◌, ◌^◌, ◌≤◌, ◌<◌, ℕ, OnOk};
-ghost use Rattle.dg_picture.specs.Layout.{each};
+ghost use Rattle.dg_layout.specs.Layout.{each};
 ghost use Rattle.dg_picture.specs.Texts.{minutes_text, rest_text, moment_text};
 ghost use Rattle.dg_picture.specs.Picture.{place_text, tick_line, tick_text, axis_name, name_text, axis_text, ending_text};
 
-use crate::layout::{Frame, Grid, foot_of, left_of, place_at};
 use crate::pieces::{Piece, push_pieces};
+use dg_layout::{Frame, Grid, foot_of, left_of, place_at};
 use std::alloc::AllocError;
 
 const HOUR: u64 = 3_600_000;

@@ -1,15 +1,16 @@
 //! Draws the bars of an image, where its versions begin, and what is kept of it at the end.
 ghost use Rattle.std.specs.Prelude.{◌≡◌, ◌++◌, ◌-◌, ◌≤◌, ◌<◌, OnOk};
-ghost use Rattle.dg_picture.specs.Counts.{held};
-ghost use Rattle.dg_picture.specs.Layout.{each, shown, lane_bottom};
+ghost use Rattle.dg_layout.specs.Counts.{held};
+ghost use Rattle.dg_layout.specs.Layout.{each, shown, lane_bottom};
 ghost use Rattle.dg_picture.specs.Picture.{step_text, bar_height, bar_text, kept_line, kept_text, image_text, group_text};
 ghost use Rattle.dg_picture.specs.Picture.{kept_of, versions_text};
 
-use crate::counts::{largest, largest_of};
-use crate::layout::{Frame, Grid, base_of, height_of, left_of, next_column, right_of};
 use crate::pieces::{Piece, push_pieces};
 use crate::steps::{push_close, push_open, push_turn};
 use crate::versions::push_versions;
+use dg_layout::{
+    Frame, Grid, base_of, height_of, largest, largest_of, left_of, next_column, right_of,
+};
 use dg_story::{Pages, Told, last_reported, total};
 use std::alloc::{AllocError, Global};
 use std::collections::BTreeMap;

@@ -1,16 +1,15 @@
 //! Draws a picture.
 ghost use Rattle.std.specs.Prelude.{◌≡◌, ℕ, ◌*◌, ◌+◌, ◌^◌, ◌++◌, ◌≤◌, ◌<◌, IfOk, OnOk};
-ghost use Rattle.dg_picture.specs.Layout.{each};
+ghost use Rattle.dg_layout.specs.Layout.{each};
 ghost use Rattle.dg_picture.specs.Picture.{images_text, starts_text, orders_text, ground_text, events_text};
 ghost use Rattle.dg_picture.specs.Picture.{picture_with, drawing_of};
 
 use crate::axis::{push_axis, push_ending};
 use crate::bars::push_image;
-use crate::changes::changes;
-use crate::layout::{Frame, Grid, foot_of, frame_for, grid_for, right_of};
 use crate::marks::push_marks;
 use crate::rows::{push_offs, push_rows, push_runs};
 use crate::texts::push_head;
+use dg_layout::{Frame, Grid, changes, foot_of, frame_for, grid_for, right_of};
 use dg_story::{Mark, Told};
 use std::alloc::{AllocError, Global};
 

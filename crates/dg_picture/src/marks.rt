@@ -2,12 +2,12 @@
 ghost use Rattle.std.specs.Prelude.{◌≡◌, ◌+◌, ◌*◌, ◌++◌, ◌≤◌, ◌<◌, take, OnOk, if◌then◌else◌};
 ghost use Rattle.std.specs.List.{list_any};
 ghost use Rattle.dg_story.specs.Reports.{is_marked};
-ghost use Rattle.dg_picture.specs.Layout.{each, lane_bottom};
+ghost use Rattle.dg_layout.specs.Layout.{each, lane_bottom};
 ghost use Rattle.dg_picture.specs.Picture.{point_text, mark_text, lane_image, row_marks, marks_text};
 
-use crate::layout::{Frame, Grid, base_of, left_of, next_column};
 use crate::pieces::{Piece, push_pieces};
 use crate::texts::{form_of, push_class};
+use dg_layout::{Frame, Grid, base_of, left_of, next_column};
 use dg_story::{Mark, Told, has_mark};
 use std::alloc::AllocError;
 

@@ -1,11 +1,11 @@
 //! Draws the rows: their names, their grounds, when their motes are off, and what runs at the end.
 ghost use Rattle.std.specs.Prelude.{◌≡◌, ◌++◌, ◌+◌, ◌-◌, ◌≤◌, ◌<◌, OnOk};
-ghost use Rattle.dg_picture.specs.Layout.{each, is_on, lane_bottom};
+ghost use Rattle.dg_layout.specs.Layout.{each, is_on, lane_bottom};
 ghost use Rattle.dg_picture.specs.Picture.{step_text, off_height, off_text, offs_text, row_text, run_text, run_of};
 
-use crate::layout::{Frame, Grid, base_of, bottom_of, left_of, middle_of, next_column, right_of};
 use crate::pieces::{Piece, push_pieces};
 use crate::steps::{push_close, push_open, push_turn};
+use dg_layout::{Frame, Grid, base_of, bottom_of, left_of, middle_of, next_column, right_of};
 use dg_story::{Ended, Told, how_ended, last_powered};
 use std::alloc::AllocError;
 

@@ -1,10 +1,10 @@
 //! Draws a line and a number where another version of an image begins.
 ghost use Rattle.std.specs.Prelude.{◌≡◌, ◌++◌, ◌+◌, ◌-◌, ◌≤◌, ◌<◌, OnOk};
-ghost use Rattle.dg_picture.specs.Layout.{each};
+ghost use Rattle.dg_layout.specs.Layout.{each};
 ghost use Rattle.dg_picture.specs.Picture.{version_line, version_text, versions_text};
 
-use crate::layout::{Frame, Grid, base_of, left_of, next_column};
 use crate::pieces::{Piece, push_pieces};
+use dg_layout::{Frame, Grid, base_of, left_of, next_column};
 use dg_story::{Pages, Told, last_reported};
 use std::alloc::AllocError;
 

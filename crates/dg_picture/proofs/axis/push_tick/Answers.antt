@@ -1,5 +1,5 @@
 use Rattle.std.proofs.Common.{ℕ, ◌*◌, ap, ◌∙◌}
-use Rattle.dg_picture.specs.Layout.{left_of}
+use Rattle.dg_layout.specs.Layout.{left_of}
 use Rattle.dg_picture.specs.Picture.{place_text, tick_line, tick_text}
 use Rattle.dg_picture.proofs.DrawLemmas.{three_parts}
 use Rattle.dg_picture.proofs.axis.push_tick.Goals as goal

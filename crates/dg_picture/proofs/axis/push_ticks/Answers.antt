@@ -1,4 +1,4 @@
-use Rattle.dg_picture.proofs.EachLemmas.{begun, grown}
+use Rattle.dg_layout.proofs.EachLemmas.{begun, grown}
 use Rattle.dg_picture.proofs.axis.push_ticks.Goals as goal
 
 pub loop-tick-init : goal.loop-tick-init

@@ -1,8 +1,8 @@
 use Rattle.std.proofs.Common.{ℕ, Option, ◌++◌, ap, ◌∙◌}
-use Rattle.dg_picture.specs.Layout.{lane_bottom}
+use Rattle.dg_layout.specs.Layout.{lane_bottom}
 use Rattle.dg_picture.specs.Picture.{kept_text}
 use Rattle.dg_story.specs.declared.reports.Pages.{Pages}
-use Rattle.dg_picture.proofs.EachLemmas.{begun, grown}
+use Rattle.dg_layout.proofs.EachLemmas.{begun, grown}
 use Rattle.dg_picture.proofs.bars.push_all_kept.Goals as goal
 
 pub loop-mote-init : goal.loop-mote-init

@@ -1,5 +1,5 @@
 use Rattle.std.proofs.Common.{◌≡◌, ◌++◌}
-use Rattle.dg_picture.specs.Layout.{each}
+use Rattle.dg_layout.specs.Layout.{each}
 use Rattle.dg_picture.specs.Picture.{kept_of}
 use Rattle.dg_picture.proofs.bars.push_all_kept.Given as goal
 

@@ -1,6 +1,6 @@
 use Rattle.std.proofs.Common.{◌≡◌, ◌++◌}
-use Rattle.dg_picture.specs.Layout.{each}
-use Rattle.dg_picture.specs.Counts.{held}
+use Rattle.dg_layout.specs.Layout.{each}
+use Rattle.dg_layout.specs.Counts.{held}
 use Rattle.dg_picture.specs.Picture.{bar_text}
 use Rattle.dg_picture.proofs.bars.push_bars.Given as goal
 

@@ -1,5 +1,5 @@
 use Rattle.std.proofs.Common.{ℕ, ap}
-use Rattle.dg_picture.specs.Layout.{each}
+use Rattle.dg_layout.specs.Layout.{each}
 use Rattle.dg_picture.specs.Picture.{bar_text, image_text}
 use Rattle.dg_picture.proofs.DrawLemmas.{six_parts, held_are}
 use Rattle.dg_picture.proofs.bars.push_image.Goals as goal

@@ -1,10 +1,10 @@
 use Rattle.std.proofs.Common.{ℕ, List, ◌++◌, ap, ◌∙◌}
-use Rattle.dg_picture.specs.Counts.{held}
+use Rattle.dg_layout.specs.Counts.{held}
 use Rattle.dg_story.specs.Reports.{nothing, reported}
-use Rattle.dg_picture.specs.Layout.{shown, lane_bottom}
+use Rattle.dg_layout.specs.Layout.{shown, lane_bottom}
 use Rattle.dg_picture.specs.Picture.{bar_height}
-use Rattle.dg_picture.proofs.EachLemmas.{begun, grown}
-use Rattle.dg_picture.proofs.ColumnLemmas.{first_kept, first_rest, next_kept, next_rest}
+use Rattle.dg_layout.proofs.EachLemmas.{begun, grown}
+use Rattle.dg_layout.proofs.ColumnLemmas.{first_kept, first_rest, next_kept, next_rest}
 use Rattle.dg_picture.proofs.DrawLemmas.{turn_here}
 use Rattle.dg_picture.proofs.bars.push_steps.Goals as goal
 

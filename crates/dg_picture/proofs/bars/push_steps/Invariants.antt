@@ -1,9 +1,9 @@
 use Rattle.std.proofs.Common.{◌≡◌, ◌++◌, take, drop}
 use Rattle.std.specs.List.{fold}
-use Rattle.dg_picture.specs.Counts.{held}
+use Rattle.dg_layout.specs.Counts.{held}
 use Rattle.dg_story.specs.Reports.{nothing, reported}
 use Rattle.dg_picture.specs.Picture.{step_text, bar_height}
-use Rattle.dg_picture.specs.Layout.{each, count_before, shown, lane_bottom}
+use Rattle.dg_layout.specs.Layout.{each, count_before, shown, lane_bottom}
 use Rattle.dg_picture.proofs.bars.push_steps.Given as goal
 
 -- the columns so far are drawn, and these changes are left

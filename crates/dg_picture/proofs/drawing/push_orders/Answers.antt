@@ -1,4 +1,4 @@
-use Rattle.dg_picture.proofs.EachLemmas.{begun, grown}
+use Rattle.dg_layout.proofs.EachLemmas.{begun, grown}
 use Rattle.dg_picture.proofs.drawing.push_orders.Goals as goal
 
 pub loop-before-init : goal.loop-before-init

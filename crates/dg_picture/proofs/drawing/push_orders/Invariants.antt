@@ -1,5 +1,5 @@
 use Rattle.std.proofs.Common.{◌≡◌, ◌++◌}
-use Rattle.dg_picture.specs.Layout.{each}
+use Rattle.dg_layout.specs.Layout.{each}
 use Rattle.dg_picture.specs.Picture.{orders_text}
 use Rattle.dg_picture.proofs.drawing.push_orders.Given as goal
 

@@ -1,8 +1,8 @@
 use Rattle.std.proofs.Common.{ℕ, List, ◌++◌, ap, ◌∙◌}
-use Rattle.dg_picture.specs.Layout.{column, left_of, lane_bottom}
+use Rattle.dg_layout.specs.Layout.{column, left_of, lane_bottom}
 use Rattle.dg_picture.specs.Picture.{lane_image}
-use Rattle.dg_picture.proofs.EachLemmas.{begun, grown}
-use Rattle.dg_picture.proofs.ColumnLemmas.{first_rest, next_rest, this_column}
+use Rattle.dg_layout.proofs.EachLemmas.{begun, grown}
+use Rattle.dg_layout.proofs.ColumnLemmas.{first_rest, next_rest, this_column}
 use Rattle.dg_picture.proofs.DrawLemmas.{mark_here}
 use Rattle.dg_picture.proofs.marks.push_row.Goals as goal
 

@@ -1,6 +1,6 @@
 use Rattle.std.proofs.Common.{◌≡◌, ◌++◌, drop}
 use Rattle.dg_picture.specs.Picture.{column_marks}
-use Rattle.dg_picture.specs.Layout.{each, count_before}
+use Rattle.dg_layout.specs.Layout.{each, count_before}
 use Rattle.dg_picture.proofs.marks.push_row.Given as goal
 
 -- the columns so far are drawn, and these changes are left

@@ -1,5 +1,5 @@
 use Rattle.std.proofs.Common.{◌≡◌, ◌++◌}
-use Rattle.dg_picture.specs.Layout.{each}
+use Rattle.dg_layout.specs.Layout.{each}
 use Rattle.dg_picture.specs.Picture.{row_marks}
 use Rattle.dg_picture.proofs.marks.push_rows.Given as goal
 

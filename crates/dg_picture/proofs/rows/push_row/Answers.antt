@@ -2,7 +2,7 @@ use Rattle.std.proofs.Common.{◌≡◌, ℕ, List, [], ◌∷◌, ◌++◌, OnO
 use Rattle.std.specs.Prelude.{codes}
 use Rattle.std.specs.Fmt.{decimal}
 use Rattle.dg_words.specs.Lists.{concatenated}
-use Rattle.dg_picture.specs.Layout.{middle, lane_bottom}
+use Rattle.dg_layout.specs.Layout.{middle, lane_bottom}
 use Rattle.dg_picture.proofs.rows.push_row.Goals as goal
 
 abbrev named : (middle mote bottom right : ℕ) → List ℕ

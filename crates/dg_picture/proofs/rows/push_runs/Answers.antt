@@ -1,8 +1,8 @@
 use Rattle.std.proofs.Common.{ℕ, ◌++◌, ap, ◌∙◌}
-use Rattle.dg_picture.specs.Layout.{lane_bottom}
+use Rattle.dg_layout.specs.Layout.{lane_bottom}
 use Rattle.dg_picture.specs.Picture.{run_text}
 use Rattle.dg_story.specs.declared.reports.Ended.{Ended}
-use Rattle.dg_picture.proofs.EachLemmas.{begun, grown}
+use Rattle.dg_layout.proofs.EachLemmas.{begun, grown}
 use Rattle.dg_picture.proofs.rows.push_runs.Goals as goal
 
 pub loop-mote-init : goal.loop-mote-init

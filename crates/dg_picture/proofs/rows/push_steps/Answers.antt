@@ -1,9 +1,9 @@
 use Rattle.std.proofs.Common.{ℕ, List, ◌++◌, ap, ◌∙◌, false}
 use Rattle.dg_story.specs.Reports.{powered}
-use Rattle.dg_picture.specs.Layout.{is_on, lane_bottom}
+use Rattle.dg_layout.specs.Layout.{is_on, lane_bottom}
 use Rattle.dg_picture.specs.Picture.{off_height}
-use Rattle.dg_picture.proofs.EachLemmas.{begun, grown}
-use Rattle.dg_picture.proofs.ColumnLemmas.{first_kept, first_rest, next_kept, next_rest}
+use Rattle.dg_layout.proofs.EachLemmas.{begun, grown}
+use Rattle.dg_layout.proofs.ColumnLemmas.{first_kept, first_rest, next_kept, next_rest}
 use Rattle.dg_picture.proofs.DrawLemmas.{turn_here}
 use Rattle.dg_picture.proofs.rows.push_steps.Goals as goal
 

@@ -2,7 +2,7 @@ use Rattle.std.proofs.Common.{◌≡◌, ◌++◌, take, drop, false}
 use Rattle.std.specs.List.{fold}
 use Rattle.dg_story.specs.Reports.{powered}
 use Rattle.dg_picture.specs.Picture.{step_text, off_height}
-use Rattle.dg_picture.specs.Layout.{each, count_before, is_on, lane_bottom}
+use Rattle.dg_layout.specs.Layout.{each, count_before, is_on, lane_bottom}
 use Rattle.dg_picture.proofs.rows.push_steps.Given as goal
 
 -- the columns so far are drawn, and these changes are left

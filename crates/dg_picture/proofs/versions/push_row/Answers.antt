@@ -1,8 +1,8 @@
 use Rattle.std.proofs.Common.{ℕ, ◌+◌, List, ◌++◌, ap, ◌∙◌}
 use Rattle.dg_story.specs.Reports.{nothing, reported}
-use Rattle.dg_picture.specs.Layout.{left_of, shown, lane_bottom}
-use Rattle.dg_picture.proofs.EachLemmas.{begun, grown}
-use Rattle.dg_picture.proofs.ColumnLemmas.{first_kept, first_rest, next_kept, next_rest}
+use Rattle.dg_layout.specs.Layout.{left_of, shown, lane_bottom}
+use Rattle.dg_layout.proofs.EachLemmas.{begun, grown}
+use Rattle.dg_layout.proofs.ColumnLemmas.{first_kept, first_rest, next_kept, next_rest}
 use Rattle.dg_picture.proofs.DrawLemmas.{version_here}
 use Rattle.dg_picture.proofs.versions.push_row.Goals as goal
 

@@ -2,7 +2,7 @@ use Rattle.std.proofs.Common.{◌≡◌, ◌++◌, take, drop}
 use Rattle.std.specs.List.{fold}
 use Rattle.dg_story.specs.Reports.{nothing, reported}
 use Rattle.dg_picture.specs.Picture.{column_version}
-use Rattle.dg_picture.specs.Layout.{each, count_before}
+use Rattle.dg_layout.specs.Layout.{each, count_before}
 use Rattle.dg_picture.proofs.versions.push_row.Given as goal
 
 -- the columns so far are drawn, and these changes are left

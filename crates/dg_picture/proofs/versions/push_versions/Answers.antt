@@ -1,4 +1,4 @@
-use Rattle.dg_picture.proofs.EachLemmas.{begun, grown}
+use Rattle.dg_layout.proofs.EachLemmas.{begun, grown}
 use Rattle.dg_picture.proofs.versions.push_versions.Goals as goal
 
 pub loop-mote-init : goal.loop-mote-init

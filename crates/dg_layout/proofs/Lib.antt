@@ -1,0 +1,4 @@
+pub mod EachLemmas
+pub mod ColumnLemmas
+pub mod LayoutLemmas
+mod LawLemmas

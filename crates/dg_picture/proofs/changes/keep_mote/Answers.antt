@@ -1,8 +1,0 @@
-use Rattle.dg_picture.proofs.EachLemmas.{begun, grown}
-use Rattle.dg_picture.proofs.changes.keep_mote.Goals as goal
-
-pub loop-before-init : goal.loop-before-init
-loop-before-init c = begun _ _
-
-pub loop-before-preserved : goal.loop-before-preserved
-loop-before-preserved c = grown _ _ _ _ _ c.loop-before.invariant c.in_ok-keep_first.ensures
