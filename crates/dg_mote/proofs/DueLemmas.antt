@@ -21,6 +21,14 @@ use Rattle.dg_volume.specs.Trails.{clear_trail}
 use Rattle.dg_recv.specs.Steps.{missing}
 use Rattle.dg_recv.specs.Times.{most_requests}
 use Rattle.std.specs.Prelude.{nat_le}
+use Rattle.std.proofs.Common.{List, subst, ◌⊎◌, ⊎_elim, ◌≤◌, ◌+◌, ◌&&◌, not, min}
+use Rattle.dg_trickle.specs.Times.{redundancy}
+use Rattle.std.proofs.lemmas.Bool.{cases_lt}
+use Rattle.dg_volume.specs.declared.volume.Volume.{Volume}
+use Rattle.dg_mote.specs.Motes.{ModeStands}
+use Rattle.dg_mote.specs.declared.mote.Mode.{Mode as ModeValue}
+use Rattle.dg_mote.specs.declared.mote.Mode.TheVariants as value
+use Rattle.dg_mote.specs.Dues.{clears_at, timer_due, mode_due, due_of}
 
 less : (n d : ℕ) → n < d → nat_lt n d ≡ true
 less n d l = grind (arith, nat_tests)
@@ -55,3 +63,51 @@ module _ (m : MoteState) (s : Store) (now word : ℕ) where
   pub tick_rests : clears m s now ≡ false → mode_tick m.mode m s now word ≡ idle m s → tick_of m s now word ≡ idle m s
   unfolding tick_of
   tick_rests none rests = ap (λ (b : Bool). cond b (record { mote = m; trail = clear_trail s; sent = None; answer = did.Idle }) (mode_tick m.mode m s now word)) none ∙ rests
+
+-- ---- when something is due
+
+less_not : (n d : ℕ) → n < d → nat_le d n ≡ false
+less_not n d l = grind (arith, nat_tests)
+
+not_less : (n d : ℕ) → d ≤ n → nat_le d n ≡ true
+not_less n d l = grind (arith, nat_tests)
+
+early_by : (fired : Bool) (over fires moment : ℕ) (x y : Act) → moment < cond fired over fires → cond (not fired && nat_le fires moment) x (cond (fired && nat_le over moment) y act.Nothing) ≡ act.Nothing
+early_by true over fires moment x y l = ap (λ (b : Bool). cond b y act.Nothing) (less_not moment over l)
+early_by false over fires moment x y l = ap (λ (b : Bool). cond b x act.Nothing) (less_not moment fires l)
+
+expired : act.Expired ≡ act.Nothing → ⊥
+expired e = cc
+
+fired_by : (b : Bool) → cond b act.Send act.Quiet ≡ act.Nothing → ⊥
+fired_by true e = cc
+fired_by false e = cc
+
+late_by : (fired : Bool) (over fires moment : ℕ) (few : Bool) → cond fired over fires ≤ moment → cond (not fired && nat_le fires moment) (cond few act.Send act.Quiet) (cond (fired && nat_le over moment) act.Expired act.Nothing) ≡ act.Nothing → ⊥
+late_by true over fires moment few l e = expired (sym (ap (λ (b : Bool). cond b act.Expired act.Nothing) (not_less moment over l)) ∙ e)
+late_by false over fires moment few l e = fired_by few (sym (ap (λ (b : Bool). cond b (cond few act.Send act.Quiet) act.Nothing) (not_less moment fires l)) ∙ e)
+
+-- the first time at which a timer acts is when it is due
+pub due_of_timer : (t : Timer) (d : ℕ) → ((moment word : ℕ) → moment < d → (act_of t moment ≡ act.Nothing) × (after_tick t moment word ≡ t)) → ((moment : ℕ) → d ≤ moment → act_of t moment ≡ act.Nothing → ⊥) → d ≡ timer_due t
+due_of_timer t d waits acts =
+    let few : Bool = nat_lt t.count redundancy in
+    ⊎_elim
+    (λ (low : d < timer_due t). absurd (acts d (omega arith) (early_by t.fired (t.begin + t.interval) (t.begin + t.t) d (cond few act.Send act.Quiet) act.Expired low)))
+    (λ (high : timer_due t ≤ d).
+    ⊎_elim (λ (more : timer_due t < d). absurd (late_by t.fired (t.begin + t.interval) (t.begin + t.t) (timer_due t) few (omega arith) (waits (timer_due t) 0 more).0))
+    (λ (same : d ≤ timer_due t). omega (arith, high, same))
+    (cases_lt (timer_due t) d))
+    (cases_lt d (timer_due t))
+
+kept_due : (c : List ℕ) (v : Volume) (s : Store) (t : Timer) (mode : Mode) (d : ℕ) → ModeStands c v s (value.Maintain t) mode → order_waits s ≡ false → d ≡ timer_due t → d ≡ mode_due mode s
+kept_due c v s t (Maintain timer) d stands none due = due ∙ ap timer_due stands.0 ∙ sym (ap (λ (b : Bool). cond b 0 (timer_due timer)) none)
+kept_due c v s t (Receive r) d stands none due = absurd stands
+kept_due c v s t (Transmit x) d stands none due = absurd stands
+
+-- a mote that maintains, and has no order that waits
+pub maintain_due : (c : List ℕ) (v : Volume) (s : Store) (kept : ModeValue) (t : Timer) (mode : Mode) (d : ℕ) → kept ≡ value.Maintain t → ModeStands c v s kept mode → order_waits s ≡ false → d ≡ timer_due t → d ≡ mode_due mode s
+maintain_due c v s kept t mode d is stands none due = kept_due c v s t mode d (subst (λ (x : ModeValue). ModeStands c v s x mode) is stands) none due
+
+pub due_is : (m : MoteState) (s : Store) (clearing mode : ℕ) → clearing ≡ clears_at m s → mode ≡ mode_due m.mode s → min clearing mode ≡ due_of m s
+unfolding due_of
+due_is m s clearing mode a b = ap (λ (k : ℕ). min k mode) a ∙ ap (λ (k : ℕ). min (clears_at m s) k) b

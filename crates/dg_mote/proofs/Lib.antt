@@ -45,4 +45,5 @@ pub mod RoundAsk
 pub mod RoundFresh
 pub mod ReceivingLemmas
 pub mod ConsistentLemmas
+pub mod MessageLemmas
 pub mod DueLemmas

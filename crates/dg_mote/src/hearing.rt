@@ -1,5 +1,5 @@
 //! What a mote does when it hears a frame.
-ghost use Rattle.std.specs.Prelude.{◌≡◌, ℕ, ◌<◌, ◌^◌, true, Ok, IfOk, OnOk, OnErr};
+ghost use Rattle.std.specs.Prelude.{◌≡◌, ℕ, ◌<◌, ◌^◌, true, List, IfOk, OnOk, OnErr, IfSome, IfNone};
 ghost use Rattle.dg_frame.specs.Grammar.{in_range};
 ghost use Rattle.dg_frame.specs.Ranges.{IsInRange};
 ghost use Rattle.dg_frame.specs.Spelling.{frame_of};
@@ -7,16 +7,16 @@ ghost use Rattle.dg_object.specs.Object.{Row};
 ghost use Rattle.dg_volume.specs.Store.{Store};
 ghost use Rattle.dg_volume.specs.Acts.{Stops};
 ghost use Rattle.dg_mote.specs.Model.{MoteState};
-ghost use Rattle.dg_mote.specs.Hears.{source_of, by_message, heard_of};
+ghost use Rattle.dg_mote.specs.Hears.{source_of, on_message, heard_of};
 ghost use Rattle.dg_mote.specs.Timely.{Timely};
 ghost use Rattle.dg_mote.specs.Motes.{IsMote, Done};
 ghost use Rattle.dg_mote.specs.Consistency.{ChipIsConsistent, MoteIsConsistent};
-ghost use Rattle.dg_mote.specs.Hearing.{StaysIf};
+ghost use Rattle.dg_mote.specs.Hearing.{ChipStays, StaysIf};
 
 use crate::laws::a_mote_keeps_consistency;
 use crate::requests::PageName;
 use crate::{Heard, Mote};
-use dg_frame::{Message, read, refusal};
+use dg_frame::{Message, one_reading, read, refusal};
 use dg_nor::{Nor, Stopped};
 
 impl Mote {
@@ -51,10 +51,10 @@ impl Mote {
         ensures stops_consistent { OnErr result ((golden : Row) → MoteIsConsistent golden (N.device nor.old).image self.old
             → ChipIsConsistent golden (N.device nor.new).image) }
     {
-        a_mote_keeps_consistency();
+        one_reading();
         match read(bytes, self.wide) {
             Err(fault) => Ok(Heard::Refused(fault)),
-            Ok(message) => self.hear_message(nor, now, word, &message),
+            Ok(message) => self.hear_sent(nor, now, word, &message),
         }
     }
 
@@ -83,33 +83,8 @@ impl Mote {
             → ChipIsConsistent golden (N.device nor.new).image) }
     {
         a_mote_keeps_consistency();
-        match refusal(message, self.wide) {
-            Some(fault) => Ok(Heard::Refused(fault)),
-            None => self.hear_message(nor, now, word, message),
-        }
-    }
-
-    /// A message was heard. The mote's own are dropped.
-    #[inline(always)]
-    fn hear_message<N: Nor>(
-        &mut self,
-        nor: &mut N,
-        now: u64,
-        word: u32,
-        message: &Message,
-    ) -> Result<Heard, Stopped>
-        requires mote { (m : MoteState) × (s : Store) × IsMote (N.device nor.old).image self.old m s }
-        requires moment { now < 2 ^ 62 }
-        requires range { IsInRange self.old.wide message.now }
-        ensures done { IfOk result (λ heard. (m : MoteState) (s : Store) → IsMote (N.device nor.old).image self.old m s
-            → Done (by_message (Ok message.now) m s now word) (N.device nor.old) (N.device nor.new) self.new heard) }
-        ensures unchanged { IfOk result (λ heard. StaysIf heard ((N.device nor.new ≡ N.device nor.old) × (self.new ≡ self.old))) }
-        ensures same_reference { (N.device nor.new).references ≡ (N.device nor.old).references }
-        ensures stopped { OnErr result ((m : MoteState) (s : Store) → IsMote (N.device nor.old).image self.old m s
-            → Stops (by_message (Ok message.now) m s now word).trail (N.device nor.old) (N.device nor.new)) }
-    {
-        if source(message) == self.id {
-            return Ok(Heard::Dropped);
+        if let Some(heard) = self.unheard(message) {
+            return Ok(heard);
         }
         match message {
             Message::Advert {
@@ -145,6 +120,25 @@ impl Mote {
                 self.hear_packet(nor, now, word, name, *packet, bytes)
             }
         }
+    }
+
+    /// The answer to a frame that the mote does not hear: one that it refuses, and its own.
+    #[inline(always)]
+    fn unheard(&self, message: &Message) -> Option<Heard>
+        requires { in_range true message.now ≡ true }
+        ensures heard { IfNone result ((m : MoteState) (s : Store) (now word : ℕ) → m.id ≡ self.now.id → m.wide ≡ self.now.wide
+            → heard_of m s now word (frame_of message.now) ≡ on_message m s now word message.now) }
+        ensures range { IfNone result (IsInRange self.now.wide message.now) }
+        ensures unheard { IfSome result (λ heard. (c : List ℕ) (m : MoteState) (s : Store) (now word : ℕ) → IsMote c self.now m s
+            → ChipStays (heard_of m s now word (frame_of message.now)) c s self.now heard) }
+    {
+        if let Some(fault) = refusal(message, self.wide) {
+            return Some(Heard::Refused(fault));
+        }
+        if source(message) == self.id {
+            return Some(Heard::Dropped);
+        }
+        None
     }
 }
 

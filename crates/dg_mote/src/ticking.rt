@@ -46,6 +46,7 @@ impl Mote {
     /// pending, and sends an advert when its timer says so (Trickle, RFC 6206). While it receives, it sends a request when
     /// one is due, and gives the page up after eight of them. While it transmits, it sends the lowest packet that is owed.
     /// A frame is put into the outbox exactly if the answer is `Sent`.
+    #[inline(always)]
     pub fn tick<N: Nor>(
         &mut self,
         nor: &mut N,

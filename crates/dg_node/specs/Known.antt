@@ -1,4 +1,4 @@
--- Boards that are known: they may be mounted again by halving (docs/IMAGES.md, "Mounting again").
+-- Boards that are known: they may be mounted again by binary search (docs/IMAGES.md, "Mounting again").
 use Rattle.std.specs.Prelude.{◌≡◌, ◌↔◌, ◌+◌, ◌≤◌, ℕ, Bool, true, List, Result, Ok, Err}
 use Rattle.dg_nor.specs.Device.{Device, Took}
 use Rattle.dg_nor.specs.Reads.{Looked, ReadStopped}
@@ -14,7 +14,7 @@ use Rattle.dg_volume.specs.declared.volume.InjectFault.TheVariants as inject
 use Rattle.dg_volume.specs.declared.volume.MountFault.{MountFault}
 use Rattle.dg_volume.specs.declared.volume.MountFault.TheVariants as mount_fault
 
--- a chip that may be mounted again by halving
+-- a chip that may be mounted again by binary search
 pub record IsKnownChip (c : List ℕ) : Type 0 where
   pub volume : IsVolume c
   pub orderly : IsOrderlyChip c

@@ -29,8 +29,8 @@ pub struct ImageBytes<'a> {
 }
 
 impl Node {
-    /// Injects an image into a board, which is mounted again by halving if it is a known board. A node that is on continues
-    /// with the new volume.
+    /// Injects an image into a board, which is mounted again by binary search if it is a known board. A node that is on
+    /// continues with the new volume.
     #[inline(never)]
     pub fn inject<N: Nor>(
         runs: &mut Option<Node>,

@@ -7,7 +7,7 @@ ghost use Rattle.dg_node.specs.Known.{IsKnownChip, MountDone};
 use dg_nor::{Nor, Stopped};
 use dg_volume::{MountFault, Volume};
 
-/// Mounts a board, by halving if it is a known board.
+/// Mounts a board, by binary search if it is a known board.
 pub fn mount_known<N: Nor>(board: &mut N, known: bool) -> Result<Volume, MountFault>
     requires known { IsTrue known → IsKnownChip (N.device board.old).image }
     ensures done { MountDone result (N.device board.old) (N.device board.new) }

@@ -2,6 +2,7 @@
 ghost use Rattle.std.specs.Prelude.{◌≡◌, ℕ, ◌<◌, List};
 ghost use Rattle.dg_volume.specs.Store.{Store};
 ghost use Rattle.dg_mote.specs.Model.{MoteState};
+ghost use Rattle.dg_mote.specs.Dues.{due_of};
 ghost use Rattle.dg_mote.specs.Effects.{tick_effect};
 ghost use Rattle.dg_mote.specs.Motes.{IsMote, volume_of};
 ghost use Rattle.dg_node.specs.Nodes.{node_image, node_mote, rest_effect};
@@ -39,8 +40,9 @@ impl Node {
 
     /// The time before which a tick changes nothing and sends nothing. The chip is not read.
     pub fn due(&self) -> u64
-        ensures { (c : List ℕ) (m : MoteState) (s : Store) (now word : ℕ) → IsMote c (node_mote self.now) m s → now < result
+        ensures rests { (c : List ℕ) (m : MoteState) (s : Store) (now word : ℕ) → IsMote c (node_mote self.now) m s → now < result
             → tick_effect m s now word ≡ rest_effect m s }
+        ensures value { (c : List ℕ) (m : MoteState) (s : Store) → IsMote c (node_mote self.now) m s → result ≡ due_of m s }
     {
         self.mote.due()
     }

@@ -33,8 +33,8 @@ pub(crate) fn reload(runs: &mut Option<Node>, volume: Volume, now: u64, word: u3
 }
 
 impl Node {
-    /// Keeps an order on a board, which is mounted again by halving if it is a known board. A node that is on continues with
-    /// the new volume.
+    /// Keeps an order on a board, which is mounted again by binary search if it is a known board. A node that is on continues
+    /// with the new volume.
     #[inline(never)]
     pub fn order<N: Nor>(
         runs: &mut Option<Node>,

@@ -23,7 +23,7 @@ use Rattle.dg_rules.specs.World.{World, Site, first_world, off_site, no_site}
 use Rattle.dg_world.specs.Boards.{WorldStands}
 use Rattle.dg_world.specs.Worlds.{IsWorld}
 use Rattle.dg_world.specs.declared.world.World.{World as KeptWorld}
-use Rattle.dg_rehearse.specs.Rehearsed.{IsStaged, OnlyDeclared, AreFormatted, base_row, base_chip, planned_row, rehearsed_world, declared_world, opening_lines, written, written_lines}
+use Rattle.dg_rehearse.specs.Rehearsed.{IsStaged, OnlyDeclared, AreFormatted, base_row, base_chip, planned_row, rehearsed_world, declared_world, opening_lines, written, written_lines, rehearsed_lines}
 use Rattle.dg_rehearse.specs.declared.plan.Plan.{Plan}
 
 -- ---- the first world
@@ -78,6 +78,9 @@ staged_first n p kept old new script formatted is wrote =
       stands = first_stands n p old new formatted;
       spelled = wrote ∙ ap written_lines (sym (append-nil (opening_lines n p)));
     }
+
+pub nothing_written : (n : NetProfile) (p : Plan) (script : List ℕ) → script ≡ written_lines (opening_lines n p) → script ≡ written_lines (rehearsed_lines n p [])
+nothing_written n p script wrote = wrote ∙ ap written_lines (sym (append-nil (opening_lines n p)))
 
 -- one row is declared
 pub declared_first : (w : World) (p : Plan) → w.declared ≡ [] → declared_as (row_at w.declared p.image p.version) w (planned_row p) ≡ declared_world w p

@@ -204,11 +204,13 @@ begun_first p xs ys b = (
   λ ordered. let k = b.1 ordered in (k.0, Contains-append_left xs ys (uncut (Order p.at 1 p.image p.version 0 k.0)) k.1),
 )
 
-pub begun_ends : (e : Ending) (n : NetProfile) (p : Plan) (script : List ℕ) (s t u v : Staging) → IsContinued n p s t → IsContinuedBy (λ more w. HasBegun p more) n p t u → IsContinuedBy (λ more w. Ends e n p script w) n p u v → IsContinuedBy (EndsBegun e n p script) n p s v
-begun_ends e n p script s t u v a b c =
-    then_by (λ more w. HasBegun p more) (λ more w. Ends e n p script w) (EndsBegun e n p script) n p s u v
-    (λ xs ys w z begun ends. (ends, λ enough. begun_first p xs ys begun))
-    (then_by Any (λ more w. HasBegun p more) (λ more w. HasBegun p more) n p s t u (λ xs ys w z _ h. begun_later p xs ys h) a b) c
+pub begun_after : (n : NetProfile) (p : Plan) (s t u : Staging) → IsContinued n p s t → IsContinuedBy (λ more w. HasBegun p more) n p t u → IsContinuedBy (λ more w. HasBegun p more) n p s u
+begun_after n p s t u a b = then_by Any (λ more w. HasBegun p more) (λ more w. HasBegun p more) n p s t u (λ xs ys w z _ h. begun_later p xs ys h) a b
+
+pub begun_ends : (e : Ending) (n : NetProfile) (p : Plan) (script : List ℕ) (s t u : Staging) → IsContinuedBy (λ more w. HasBegun p more) n p s t → IsContinuedBy (λ more w. Ends e n p script w) n p t u → IsContinuedBy (EndsBegun e n p script) n p s u
+begun_ends e n p script s t u a b =
+    then_by (λ more w. HasBegun p more) (λ more w. Ends e n p script w) (EndsBegun e n p script) n p s t u
+    (λ xs ys w z begun ends. (ends, λ enough. begun_first p xs ys begun)) a b
 
 pub full_ends : (n : NetProfile) (p : Plan) (script : List ℕ) (s t : Staging) → IsContinued n p s t → IsFull t → IsContinuedBy (λ more w. Ends TooMany n p script w) n p s t
 full_ends n p script s t g full =

@@ -6,6 +6,12 @@ pub mod ScriptLemmas
 pub mod SpellLemmas
 pub mod TellingLemmas
 pub mod EndLemmas
-pub mod NeighbourLemmas
 pub mod TrialRunLemmas
 pub mod TrialLemmas
+pub mod CourseLemmas
+pub mod TurnLemmas
+pub mod ClockLemmas
+pub mod SameLemmas
+pub mod NoteLemmas
+pub mod FirstLemmas
+pub mod ComingLemmas

@@ -103,7 +103,7 @@ may_apply n p s x u fits cut =
 early_moment : (moment events : ℕ) → moment ≤ events * (2 ^ 32 - 1) → events ≤ most_events → moment ≤ 2 ^ 64 - 1
 early_moment moment events early few = omega (arith, early, few)
 
-moment_next : (before dt after events t : ℕ) → t ≡ min (before + dt) (2 ^ 64 - 1) → after ≡ before + dt → after ≤ events * (2 ^ 32 - 1) → events ≤ most_events → t ≡ after
+pub moment_next : (before dt after events t : ℕ) → t ≡ min (before + dt) (2 ^ 64 - 1) → after ≡ before + dt → after ≤ events * (2 ^ 32 - 1) → events ≤ most_events → t ≡ after
 moment_next before dt after events t is sum early few =
     let h = early_moment after events early few in
     let low : before + dt ≤ 2 ^ 64 - 1 = omega (arith, h, sum) in

@@ -24,7 +24,8 @@ use Rattle.dg_script.specs.Fitting.{FitsCut, FitsEvent, FitsLine, IsGoldenImage}
 use Rattle.dg_script.specs.Lines.{line_of}
 use Rattle.dg_script.specs.Places.{first_place, place_after, joins, is_linked, none_narrow, fault_at_end}
 use Rattle.dg_script.specs.Ranges.{AreTwo, IsDeclared}
-use Rattle.dg_script.specs.Script.{Script, script_from, with_line, numbered}
+use Rattle.dg_script.specs.Script.{Script, script_from, with_line}
+use Rattle.dg_script.specs.inner.Words.{numbered}
 use Rattle.dg_script.specs.Sizes.{most_motes, most_sweeps}
 use Rattle.dg_script.specs.Spelling.{content_text, line_text}
 use Rattle.dg_script.specs.Words.{behind_spaces}
@@ -32,7 +33,7 @@ use Rattle.dg_script.specs.declared.fault.LineFault.{LineFault}
 use Rattle.dg_script.specs.declared.line.Line.{Line}
 use Rattle.dg_script.specs.declared.line.Line.TheVariants.{Nothing, Motes, Golden, Boards, Link, Narrow, Image, Cut as CutLine, Happens as EventLine, Round, Sweeps}
 use Rattle.dg_script.specs.declared.place.Place.{Place}
-use Rattle.dg_script.proofs.ReadsBackLemmas.{line_reads}
+use Rattle.dg_lines.proofs.ReadsBackLemmas.{line_reads}
 use Rattle.dg_trial.specs.Playing.{FitsStep}
 use Rattle.dg_rehearse.specs.Rehearsed.{SpellsScript, cut_lines, step_lines, written_lines}
 

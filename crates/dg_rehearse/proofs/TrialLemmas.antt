@@ -27,7 +27,8 @@ use Rattle.dg_rules.specs.Runs.{Played, Plays}
 use Rattle.dg_rules.specs.World.{World}
 use Rattle.dg_world.specs.Alone.{uncut}
 use Rattle.dg_world.specs.Boards.{WorldStands}
-use Rattle.dg_replay.specs.Items.{Beginning, StartState, begin_behind, beginning_of, golden_world, no_start_state}
+use Rattle.dg_replay.specs.Items.{Beginning, StartState, begin_behind, beginning_of, no_start_state}
+use Rattle.dg_replay.specs.inner.Words.{golden_world}
 use Rattle.dg_replay.specs.Replayed.{item_played, RunsTo}
 use Rattle.dg_replay.proofs.ItemLemmas.{plays_append}
 use Rattle.dg_trial.specs.Schedule.{SchedulePart, always, line_links, resets, row_of_seed, opening, shaking, rest_events, schedule, sweep_count}

@@ -26,7 +26,3 @@ IsAlongItem n w (Applies step reported) = IsAlongEvent n w step.event
 -- an item that was played delivered no frame except along a link
 abbrev pub IsAlong : NetProfile → Played → Type 0
 IsAlong n p = IsAlongItem n p.before p.item
-
--- only those are marked that links join with mote a
-abbrev pub AreNeighbours : (marks : List Bool) → List (ℕ × ℕ) → (a : ℕ) → Type 0
-AreNeighbours marks links a = (m : ℕ) → slice_index_or marks m false ≡ true → is_linked links a m ≡ true

@@ -12,9 +12,10 @@ ghost use Rattle.dg_rehearse.specs.Rehearsed.{rehearsed_world, declared_world, o
 use crate::plan::Plan;
 use crate::stop::Halt;
 use dg_base::Bytes;
+use dg_lines::write_line;
 use dg_netcfg::NetProfile;
 use dg_nor::Nor;
-use dg_script::{Line, write_line};
+use dg_script::Line;
 use dg_world::{DeclareFault, FormatStopped, World, format_boards};
 use std::alloc::{AllocError, Global};
 

@@ -1,19 +1,23 @@
 //! The call that rehearses.
-ghost use Rattle.std.specs.Prelude.{◌≡◌, ◌≢◌, ◌⊎◌, ◌<◌, ◌≤◌, map, length, Err, IfOk, OnOk};
+ghost use Rattle.std.specs.Prelude.{◌≡◌, ◌≢◌, ◌⊎◌, ◌<◌, ◌≤◌, map, length, List, Err, IfOk, OnOk};
 ghost use Rattle.dg_netcfg.specs.Readings.{IsAllowed};
 ghost use Rattle.dg_script.specs.Ranges.{IsDeclared};
 ghost use Rattle.dg_object.specs.Sizes.{most_bytes};
 ghost use Rattle.dg_rehearse.specs.Ended.{RehearsalEnded, DeliversAlong};
 ghost use Rattle.dg_rehearse.specs.Rehearsed.{Rehearsed, IsPlanned, planned_row};
+ghost use Rattle.dg_volume.specs.Store.{Store};
+ghost use Rattle.dg_rehearse.specs.Clocked.{IsByClock};
+ghost use Rattle.dg_rehearse.specs.declared.plan.Ending.{Ending};
 ghost use Rattle.dg_rehearse.specs.declared.stop.Stop.{Stop};
 
 use crate::plan::{Plan, Rehearsal};
 use crate::schedule::Schedule;
 use crate::stage::Stage;
 use crate::stop::{Halt, Stop};
+use crate::telling::planned_pages;
 use dg_netcfg::NetProfile;
 use dg_nor::Nor;
-use dg_object::{check_size, pages_of};
+use dg_object::check_size;
 use dg_rules::scripts_with_golden;
 use std::alloc::Global;
 
@@ -31,6 +35,9 @@ pub fn rehearse<N: Nor>(
     // every mote has the image, or the minutes ran out, or a script has no room for more
     ensures ends { IfOk result (RehearsalEnded profile.now plan.now (map N.device boards.old.items)
         (map N.device boards.new.items)) }
+    // the words and the seed alone say what is written, but for what a cut leaves
+    ensures by_clock { IfOk result (λ r. r.ending ≢ Ending.TooMany
+        → (left : List Store) × IsByClock profile.now plan.now left r) }
     ensures along { IfOk result (λ r. DeliversAlong profile.now plan.now (map N.device boards.old.items)
         (map N.device boards.new.items) r.script.items) }
     ensures no_mote { result ≡ Err Stop.NoMote → profile.now.motes ≤ plan.now.at }
@@ -62,11 +69,13 @@ fn play<N: Nor>(
         (map N.device boards.new.items) r.script.items) }
     ensures ends { IfOk result (RehearsalEnded profile.now plan.now (map N.device boards.old.items)
         (map N.device boards.new.items)) }
+    ensures by_clock { IfOk result (λ r. r.ending ≢ Ending.TooMany
+        → (left : List Store) × IsByClock profile.now plan.now left r) }
     ensures along { IfOk result (λ r. DeliversAlong profile.now plan.now (map N.device boards.old.items)
         (map N.device boards.new.items) r.script.items) }
 {
     scripts_with_golden();
-    let pages = pages_of(plan.content.as_slice().len() as u32);
+    let pages = planned_pages(plan);
     let mut stage = Stage::set(alloc, profile, plan, boards)?;
     let mut schedule = Schedule::of(plan, pages);
     let ending = schedule.play(alloc, profile, plan, &mut stage, boards)?;

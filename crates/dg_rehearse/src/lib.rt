@@ -7,7 +7,9 @@
 mod beginning;
 mod call;
 mod cutting;
+mod laws;
 mod neighbours;
+mod noting;
 mod opening;
 mod plan;
 mod progress;
@@ -19,6 +21,7 @@ mod trial;
 mod turning;
 
 pub use call::rehearse;
+pub use laws::the_same_words_give_the_same_bytes;
 pub use plan::{Ending, Plan, Rehearsal};
 pub use stop::Stop;
 pub use trial::write_trial;

@@ -1,5 +1,6 @@
 //! The schedule: each mote is ticked when something of it is due, and each frame is heard by the neighbours that it reaches.
-ghost use Rattle.std.specs.Prelude.{◌≡◌, ◌≢◌, ◌≤◌, ◌<◌, ℕ, true, map, List, length, Ok, OnOk, Some, None};
+ghost use Rattle.std.specs.Prelude.{◌≡◌, ◌≢◌, ◌≤◌, ◌<◌, ℕ, Bool, true, map, List, length, slice_index_or};
+ghost use Rattle.std.specs.Prelude.{Ok, OnOk, IfOk, Some, None};
 ghost use Rattle.dg_nor.specs.Device.{Device};
 ghost use Rattle.dg_netcfg.specs.declared.profile.NetProfile.{NetProfile as Profile};
 ghost use Rattle.dg_rules.specs.Events.{mote_of};
@@ -7,6 +8,12 @@ ghost use Rattle.dg_rules.specs.World.{World as RuleWorld};
 ghost use Rattle.dg_script.specs.Places.{is_linked};
 ghost use Rattle.dg_world.specs.Alone.{uncut};
 ghost use Rattle.dg_world.specs.Worlds.{IsWorld};
+ghost use Rattle.dg_object.specs.Object.{pages_for};
+ghost use Rattle.dg_rehearse.specs.Clocked.{PlaysOut, OnTurn, OnComing};
+ghost use Rattle.dg_rehearse.specs.Courses.{Course, Moves, IsCourse, agenda_of, scene, last_moment};
+ghost use Rattle.dg_rehearse.specs.Courses.{event_course};
+ghost use Rattle.dg_rehearse.specs.Turns.{first_agenda, first_turn, not_before, coming_by, coming_now, earlier_of};
+ghost use Rattle.dg_rehearse.specs.Turns.{is_cut_first, next_moment, within_time, opened_course, is_done};
 ghost use Rattle.dg_rehearse.specs.Ended.{Ends, EndsNow, EndsBegun};
 ghost use Rattle.dg_rehearse.specs.Rehearsed.{IsRehearsed, IsUnderWay, IsContinued, IsContinuedBy, Makes, MoreEvents};
 ghost use Rattle.dg_rehearse.specs.Rehearsed.{IsFull, SendsOnly, SentBy, LastSentBy, GoesAlong, Staging, staging};
@@ -17,7 +24,7 @@ ghost use Rattle.dg_rehearse.specs.declared.schedule.Next.{Next};
 use crate::cutting::BETWEEN_CUTS;
 use crate::plan::{Ending, Plan};
 use crate::progress::Progress;
-use crate::stage::{Played, Stage};
+use crate::stage::{Played, Stage, mote_at};
 use crate::stop::Halt;
 use crate::turning::ending_of;
 use dg_base::{Event, MOST_MOTES};
@@ -26,9 +33,6 @@ use dg_nor::Nor;
 use dg_script::MOST_EVENTS;
 use dg_seed::Draws;
 use std::alloc::Global;
-
-/// How long a mote stays off after its start was cut, in milliseconds.
-const OFF: u64 = 1_000;
 
 /// A script has at most 16,777,216 bytes, and a turn writes the lines of no more than sixteen events.
 const MOST_SCRIPT: usize = dg_script::USED - 16 * 64;
@@ -40,9 +44,9 @@ const MINUTE: u64 = 60_000;
 #[derive(Drop)]
 pub(crate) struct Schedule {
     pub(crate) draws: Draws,
-    progress: Progress,
+    pub(crate) progress: Progress,
     /// For each mote, the moment before which nothing of it is due, or at which it powers on again.
-    due: [u64; MOST_MOTES as usize],
+    pub(crate) due: [u64; MOST_MOTES as usize],
     /// Resets with a cut that are left, and the moment of the next.
     pub(crate) cuts: u32,
     pub(crate) next_cut: u64,
@@ -65,7 +69,9 @@ enum Coming {
 
 impl Schedule {
     /// The schedule of a plan for this many motes and an image of this many pages.
-    pub(crate) fn of(plan: &Plan, pages: u8) -> Schedule {
+    pub(crate) fn of(plan: &Plan, pages: u8) -> Schedule
+        ensures { pages ≡ pages_for (length plan.now.content) → agenda_of result ≡ first_agenda plan.now }
+    {
         let mut draws = Draws::of_seed(plan.seed);
         let next_cut = u64::from(draws.next() % BETWEEN_CUTS);
         Schedule {
@@ -90,12 +96,15 @@ impl Schedule {
         requires some { 1 ≤ profile.now.motes }
         ensures goes_on { OnOk result (IsContinued profile.now plan.now (staging stage.old (map N.device boards.old.items))
             (staging stage.new (map N.device boards.new.items))) }
+        ensures by_clock { (e : End) → result ≡ Ok e → e ≢ End.TooMany → (c : Course)
+            → IsCourse profile.now plan.now (scene self.old stage.old (map N.device boards.old.items)) c
+            → PlaysOut profile.now plan.now (opened_course profile.now plan.now c) e
+            (scene self.new stage.new (map N.device boards.new.items)) }
         ensures ends { (e : End) → result ≡ Ok e
             → IsContinuedBy (EndsBegun e profile.now plan.now stage.new.script.items) profile.now plan.now
             (staging stage.old (map N.device boards.old.items)) (staging stage.new (map N.device boards.new.items)) }
     {
-        self.start_all(profile, plan, stage, boards)?;
-        match self.inject(profile, plan, stage, boards)? {
+        match self.open(profile, plan, stage, boards)? {
             Played::Done => self.play_turns(alloc, profile, plan, stage, boards),
             Played::TooMany => Ok(Ending::TooMany),
         }
@@ -114,6 +123,9 @@ impl Schedule {
         requires some { 1 ≤ profile.now.motes }
         ensures goes_on { OnOk result (IsContinued profile.now plan.now (staging stage.old (map N.device boards.old.items))
             (staging stage.new (map N.device boards.new.items))) }
+        ensures by_clock { (e : End) → result ≡ Ok e → e ≢ End.TooMany → (c : Course)
+            → IsCourse profile.now plan.now (scene self.old stage.old (map N.device boards.old.items)) c
+            → PlaysOut profile.now plan.now c e (scene self.new stage.new (map N.device boards.new.items)) }
         ensures ends { (e : End) → result ≡ Ok e
             → IsContinuedBy (λ more w. Ends e profile.now plan.now stage.new.script.items w) profile.now plan.now
             (staging stage.old (map N.device boards.old.items)) (staging stage.new (map N.device boards.new.items)) }
@@ -139,6 +151,9 @@ impl Schedule {
         requires some { 1 ≤ profile.now.motes }
         ensures goes_on { OnOk result (IsContinued profile.now plan.now (staging stage.old (map N.device boards.old.items))
             (staging stage.new (map N.device boards.new.items))) }
+        ensures by_clock { IfOk result (λ o. OnTurn o profile.now plan.now
+            (scene self.old stage.old (map N.device boards.old.items))
+            (scene self.new stage.new (map N.device boards.new.items))) }
         ensures ends { (e : End) → result ≡ Ok (Some e)
             → IsContinuedBy (λ more w. Ends e profile.now plan.now stage.new.script.items w) profile.now plan.now
             (staging stage.old (map N.device boards.old.items)) (staging stage.new (map N.device boards.new.items)) }
@@ -163,6 +178,11 @@ impl Schedule {
         requires under_way { IsUnderWay profile.now plan.now (staging stage.old (map N.device boards.old.items)) }
         ensures goes_on { OnOk result (IsContinued profile.now plan.now (staging stage.old (map N.device boards.old.items))
             (staging stage.new (map N.device boards.new.items))) }
+        ensures moves { Moves (λ c. c) profile.now plan.now (scene self.now stage.old (map N.device boards.old.items))
+            (scene self.now stage.new (map N.device boards.new.items)) }
+        ensures value { (is : Bool) → result ≡ Ok is → (c : Course)
+            → IsCourse profile.now plan.now (scene self.now stage.old (map N.device boards.old.items)) c
+            → is ≡ is_done profile.now plan.now c }
         ensures complete { result ≡ Ok true
             → IsContinuedBy (λ more w. Ends End.Complete profile.now plan.now stage.new.script.items w) profile.now plan.now
             (staging stage.old (map N.device boards.old.items)) (staging stage.new (map N.device boards.new.items)) }
@@ -187,6 +207,9 @@ impl Schedule {
         requires some { 1 ≤ profile.now.motes }
         ensures goes_on { OnOk result (IsContinued profile.now plan.now (staging stage.old (map N.device boards.old.items))
             (staging stage.new (map N.device boards.new.items))) }
+        ensures by_clock { IfOk result (λ o. OnComing o profile.now plan.now
+            (scene self.old stage.old (map N.device boards.old.items))
+            (scene self.new stage.new (map N.device boards.new.items))) }
         ensures ends { (e : End) → result ≡ Ok (Some e)
             → IsContinuedBy (λ more w. Ends e profile.now plan.now stage.new.script.items w) profile.now plan.now
             (staging stage.old (map N.device boards.old.items)) (staging stage.new (map N.device boards.new.items)) }
@@ -211,47 +234,54 @@ impl Schedule {
         requires some { 1 ≤ motes }
         ensures turn { (next : Next) → result ≡ Coming.Turn next → next.mote < motes }
         ensures ends { (e : End) (boards : List Device) → result ≡ Coming.End e → EndsNow e plan.now (staging stage.now boards) }
+        ensures value { result ≡ coming_by plan.now motes (length stage.now.script.items) (agenda_of self.now) stage.now.moment }
     {
         if stage.script.len() > MOST_SCRIPT {
             return Coming::End(Ending::TooLong);
         }
-        let next = self.next(motes, stage.moment);
-        let is_cut = self.cuts > 0 && self.next_cut <= next.moment;
-        let moment = if is_cut {
-            self.next_cut.max(stage.moment)
+        let now = stage.moment;
+        let next = self.next(motes, now);
+        let is_cut = self.is_cut_first(next);
+        let moment = self.next_moment(is_cut, now, next);
+        within_time(is_cut, moment, now, u64::from(plan.minutes) * MINUTE, next)
+    }
+
+    /// Whether a reset with a cut comes before the turn of a mote.
+    fn is_cut_first(&self, next: Next) -> bool
+        ensures { result ≡ is_cut_first (agenda_of self.now) next }
+    {
+        self.cuts > 0 && self.next_cut <= next.moment
+    }
+
+    /// The moment of a reset with a cut, or of a turn.
+    fn next_moment(&self, is_cut: bool, now: u64, next: Next) -> u64
+        ensures { result ≡ next_moment is_cut (agenda_of self.now) now next }
+    {
+        if is_cut {
+            self.next_cut.max(now)
         } else {
             next.moment
-        };
-        let end = u64::from(plan.minutes) * MINUTE;
-        if moment <= end {
-            return coming_at(is_cut, moment, next);
         }
-        if stage.moment >= end {
-            return Coming::End(Ending::OutOfTime);
-        }
-        Coming::Turn(Next {
-            mote: next.mote,
-            moment: end,
-        })
     }
 
     /// The mote that is due first, and when: not before this moment.
     fn next(&self, motes: u8, now: u64) -> Next
         requires some { 1 ≤ motes }
-        ensures { result.mote < motes }
+        ensures known { result.mote < motes }
+        ensures value { result ≡ not_before now (first_turn (agenda_of self.now).turns motes) }
     {
         let mut next = Next {
             mote: 0,
             moment: u64::MAX,
         };
         for mote in 0..motes {
-            let due = match self.due.get(usize::from(mote)) {
-                Some(due) => *due,
-                None => u64::MAX,
-            };
-            if due < next.moment {
-                next = Next { mote, moment: due };
-            }
+            next = earlier(
+                next,
+                Next {
+                    mote,
+                    moment: self.turn_of(mote),
+                },
+            );
         }
         Next {
             mote: next.mote,
@@ -259,11 +289,20 @@ impl Schedule {
         }
     }
 
-    /// Plays an event at a mote, and notes its outcome.
+    /// The moment from which on a mote has its turn.
+    fn turn_of(&self, mote: u8) -> u64
+        ensures { result ≡ slice_index_or (agenda_of self.now).turns mote last_moment }
+    {
+        match self.due.get(usize::from(mote)) {
+            Some(due) => *due,
+            None => u64::MAX,
+        }
+    }
+
+    /// Plays an event, and notes its outcome.
     pub(crate) fn event<N: Nor>(
         &mut self,
         event: Event,
-        mote: u8,
         profile: &NetProfile,
         plan: &Plan,
         stage: &mut Stage,
@@ -274,6 +313,9 @@ impl Schedule {
         requires along { GoesAlong profile.now event (staging stage.old (map N.device boards.old.items)) }
         ensures goes_on { OnOk result (IsContinued profile.now plan.now (staging stage.old (map N.device boards.old.items))
             (staging stage.new (map N.device boards.new.items))) }
+        ensures moves { result ≡ Ok Played.Done → Moves (event_course plan.now event) profile.now plan.now
+            (scene self.old stage.old (map N.device boards.old.items))
+            (scene self.new stage.new (map N.device boards.new.items)) }
         ensures makes { result ≡ Ok Played.Done → Makes (uncut event) profile.now plan.now
             (staging stage.old (map N.device boards.old.items))
             (staging stage.new (map N.device boards.new.items)) }
@@ -281,37 +323,48 @@ impl Schedule {
         ensures sends { OnOk result (SendsOnly (mote_of event) (staging stage.old (map N.device boards.old.items))
             (staging stage.new (map N.device boards.new.items))) }
     {
+        let mote = mote_at(&event);
         let played = stage.play(profile, plan, event, boards)?;
         self.note(mote, plan, stage);
         Ok(played)
     }
+}
 
-    /// Notes the outcome of an event at a mote, and when the mote is due next.
-    pub(crate) fn note(&mut self, mote: u8, plan: &Plan, stage: &Stage) {
-        self.progress.note(plan, &stage.reports);
-        let due = match stage.world.due(mote) {
-            Some(due) => due,
-            None => stage.moment.saturating_add(OFF),
-        };
-        let mote = usize::from(mote);
-        if mote < self.due.len() {
-            self.due[mote] = due;
-        }
-    }
-
-    /// Keeps a mote from having a turn before this moment.
-    pub(crate) fn rest(&mut self, mote: u8, moment: u64) {
-        let mote = usize::from(mote);
-        if mote < self.due.len() {
-            self.due[mote] = self.due[mote].max(moment);
-        }
+/// The one of two turns that comes earlier: the first if both come at once.
+fn earlier(first: Next, second: Next) -> Next
+    ensures value { result ≡ earlier_of first second }
+    ensures known { (motes : ℕ) → first.mote < motes → second.mote < motes → result.mote < motes }
+{
+    if second.moment < first.moment {
+        second
+    } else {
+        first
     }
 }
 
-/// What happens within the time: a reset with a cut, or a turn.
+/// What happens at a moment if that is within the time, and otherwise at the end of the time: a reset with a cut, or a turn.
+fn within_time(is_cut: bool, moment: u64, now: u64, end: u64, next: Next) -> Coming
+    ensures turn { (n : Next) → result ≡ Coming.Turn n → n.mote ≡ next.mote }
+    ensures ends { (e : End) → result ≡ Coming.End e → (e ≡ End.OutOfTime) × (end ≤ now) }
+    ensures value { result ≡ within_time is_cut moment now end next }
+{
+    if moment <= end {
+        return coming_at(is_cut, moment, next);
+    }
+    if now >= end {
+        return Coming::End(Ending::OutOfTime);
+    }
+    Coming::Turn(Next {
+        mote: next.mote,
+        moment: end,
+    })
+}
+
+/// A reset with a cut, or a turn.
 fn coming_at(is_cut: bool, moment: u64, next: Next) -> Coming
     ensures turn { (n : Next) → result ≡ Coming.Turn n → n ≡ next }
     ensures goes_on { (e : End) → result ≢ Coming.End e }
+    ensures value { result ≡ coming_now is_cut moment next }
 {
     if is_cut {
         return Coming::Cut { moment };

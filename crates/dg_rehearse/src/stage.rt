@@ -1,12 +1,19 @@
 //! A world over chips, and the script of its events so far.
-ghost use Rattle.std.specs.Prelude.{◌≡◌, ◌≢◌, ◌≤◌, ◌+◌, ◌-◌, ◌^◌, ◌++◌, min, true, map, Ok, OnOk, IfOk, length};
+ghost use Rattle.std.specs.Prelude.{◌≡◌, ◌≢◌, ◌≤◌, ◌+◌, ◌-◌, ◌^◌, ◌++◌, min, Bool, true, map, Ok, OnOk, IfOk, Some, length};
 ghost use Rattle.dg_netcfg.specs.Readings.{IsAllowed};
 ghost use Rattle.dg_script.specs.Fitting.{FitsCut, FitsEvent};
 ghost use Rattle.dg_script.specs.Sizes.{most_motes};
 ghost use Rattle.dg_script.specs.declared.line.Line.TheVariants.{Cut as CutLine, Happens as EventLine};
-ghost use Rattle.dg_rules.specs.Events.{mote_of, dt_of};
+ghost use Rattle.dg_rules.specs.Events.{does, mote_of, dt_of};
 ghost use Rattle.dg_world.specs.Alone.{uncut};
 ghost use Rattle.dg_world.specs.declared.world.WorldFault.{WorldFault};
+ghost use Rattle.dg_rules.specs.Changes.{final_lines};
+ghost use Rattle.dg_rules.specs.World.{World as RuleWorld};
+ghost use Rattle.dg_volume.specs.Store.{Store};
+ghost use Rattle.dg_world.specs.Applying.{step_of};
+ghost use Rattle.dg_world.specs.Worlds.{IsWorld};
+ghost use Rattle.dg_rehearse.specs.Courses.{IsStagedWorld, IsStepMade, whole_outcome, cut_outcome};
+ghost use Rattle.dg_rehearse.specs.Turns.{Begins, all_motes, tells_of};
 ghost use Rattle.dg_rehearse.specs.Ended.{Ends};
 ghost use Rattle.dg_rehearse.specs.Rehearsed.{IsPlanned, IsRehearsed, IsStaged, IsUnderWay, IsContinued, IsContinuedBy};
 ghost use Rattle.dg_rehearse.specs.Rehearsed.{Makes, MoreEvents, IsFull};
@@ -18,9 +25,10 @@ use crate::plan::Plan;
 use crate::stop::Halt;
 use crate::telling::all_have;
 use dg_base::{Cut, Event};
+use dg_lines::write_line;
 use dg_netcfg::NetProfile;
 use dg_nor::Nor;
-use dg_script::{Line, Report, write_line};
+use dg_script::{Line, Report};
 use dg_world::{FinishFault, World, WorldFault};
 use std::alloc::{AllocError, Global};
 
@@ -53,8 +61,9 @@ impl Stage {
         requires allowed { IsAllowed profile.now }
         requires planned { IsPlanned profile.now.motes plan.now }
         requires boards { profile.now.motes ≤ length boards.old.items }
-        ensures { IfOk result (λ s. IsStaged profile.now plan.now (map N.device boards.old.items)
+        ensures staged { IfOk result (λ s. IsStaged profile.now plan.now (map N.device boards.old.items)
             (staging s (map N.device boards.new.items))) }
+        ensures begins { IfOk result (λ s. Begins profile.now plan.now (staging s (map N.device boards.new.items))) }
     {
         format_chips(boards, profile.motes)?;
         let mut world = network_of(alloc, profile)?;
@@ -84,6 +93,10 @@ impl Stage {
             (staging self.new (map N.device boards.new.items))) }
         ensures makes { result ≡ Ok Played.Done → Makes (uncut event) profile.now plan.now
             (staging self.old (map N.device boards.old.items)) (staging self.new (map N.device boards.new.items)) }
+        ensures steps { result ≡ Ok Played.Done → (w : RuleWorld)
+            → IsStagedWorld profile.now (staging self.old (map N.device boards.old.items)) w
+            → IsStepMade profile.now plan.now (uncut event) (staging self.old (map N.device boards.old.items))
+            (staging self.new (map N.device boards.new.items)) self.new.reports.items (whole_outcome (does w event) w event) }
         ensures full { result ≡ Ok Played.TooMany → IsFull (staging self.new (map N.device boards.new.items)) }
         ensures sends { OnOk result (SendsOnly (mote_of event) (staging self.old (map N.device boards.old.items))
             (staging self.new (map N.device boards.new.items))) }
@@ -118,6 +131,11 @@ impl Stage {
         requires along { GoesAlong profile.now event (staging self.old (map N.device boards.old.items)) }
         ensures goes_on { OnOk result (IsContinued profile.now plan.now (staging self.old (map N.device boards.old.items))
             (staging self.new (map N.device boards.new.items))) }
+        ensures steps { result ≡ Ok Played.Done → (w : RuleWorld)
+            → IsStagedWorld profile.now (staging self.old (map N.device boards.old.items)) w → (left : Store)
+            × IsStepMade profile.now plan.now (step_of event (Some cut)) (staging self.old (map N.device boards.old.items))
+            (staging self.new (map N.device boards.new.items)) self.new.reports.items
+            (cut_outcome (does w event) w event cut left) }
         ensures events { result ≡ Ok Played.Done → MoreEvents (staging self.old (map N.device boards.old.items))
             (staging self.new (map N.device boards.new.items)) }
         ensures full { result ≡ Ok Played.TooMany → IsFull (staging self.new (map N.device boards.new.items)) }
@@ -148,6 +166,12 @@ impl Stage {
         requires under_way { IsUnderWay profile.now plan.now (staging self.old (map N.device boards.old.items)) }
         ensures goes_on { OnOk result (IsContinued profile.now plan.now (staging self.old (map N.device boards.old.items))
             (staging self.new (map N.device boards.new.items))) }
+        ensures script { self.new.script.items ≡ self.old.script.items }
+        ensures moment { self.new.moment ≡ self.old.moment }
+        ensures stands { (w : RuleWorld) → IsWorld self.old.world (map N.device boards.old.items) w
+            → IsWorld self.new.world (map N.device boards.new.items) w }
+        ensures value { (is : Bool) → result ≡ Ok is → (w : RuleWorld) → IsWorld self.old.world (map N.device boards.old.items) w
+            → is ≡ all_motes (tells_of plan.now (final_lines w)) profile.now.motes }
         ensures complete { result ≡ Ok true
             → IsContinuedBy (λ more w. Ends Ending.Complete profile.now plan.now self.new.script.items w) profile.now plan.now
             (staging self.old (map N.device boards.old.items)) (staging self.new (map N.device boards.new.items)) }
@@ -158,6 +182,21 @@ impl Stage {
             Err(FinishFault::Memory) => Err(Halt::Memory),
             Err(FinishFault::Flash { .. }) => Err(Halt::Flash),
         }
+    }
+}
+
+/// The mote at which an event happens.
+pub(crate) fn mote_at(event: &Event) -> u8
+    ensures { result ≡ mote_of event.now }
+{
+    match event {
+        Event::Tick { mote, .. }
+        | Event::Hear { mote, .. }
+        | Event::Frame { mote, .. }
+        | Event::Reset { mote, .. }
+        | Event::Inject { mote, .. }
+        | Event::Order { mote, .. } => *mote,
+        Event::Last { to, .. } => *to,
     }
 }
 
@@ -177,7 +216,7 @@ fn dt_at(event: &Event) -> u32
 }
 
 /// The moment this many milliseconds later.
-fn later(moment: u64, dt: u32) -> u64
+pub(crate) fn later(moment: u64, dt: u32) -> u64
     ensures { result ≡ min (moment + dt) (2 ^ 64 - 1) }
 {
     moment.saturating_add(u64::from(dt))

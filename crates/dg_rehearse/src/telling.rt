@@ -4,6 +4,7 @@ ghost use Rattle.std.specs.List.{list_any};
 ghost use Rattle.dg_object.specs.Sizes.{most_bytes};
 ghost use Rattle.dg_object.specs.Object.{pages_for};
 ghost use Rattle.dg_rehearse.specs.Ended.{TellsEach, TellsOf, tells_kept, tells_on};
+ghost use Rattle.dg_rehearse.specs.Turns.{all_motes, tells_of};
 
 use crate::plan::Plan;
 use dg_object::pages_of;
@@ -12,9 +13,10 @@ use dg_script::Report;
 /// Whether lines say that each of this many motes keeps all pages of the image and, if it was ordered, runs it.
 pub(crate) fn all_have(reports: &[Report], motes: u8, plan: &Plan) -> bool
     requires fits { length plan.now.content ≤ most_bytes }
-    ensures { result ≡ true → TellsEach motes plan.now reports.now }
+    ensures each { result ≡ true → TellsEach motes plan.now reports.now }
+    ensures value { result ≡ all_motes (tells_of plan.now reports.now) motes }
 {
-    let pages = pages_of(plan.content.as_slice().len() as u32);
+    let pages = planned_pages(plan);
     for mote in 0..motes {
         if !has(reports, mote, plan, pages) {
             return false;
@@ -23,10 +25,19 @@ pub(crate) fn all_have(reports: &[Report], motes: u8, plan: &Plan) -> bool
     true
 }
 
+/// How many pages the image of a plan has.
+pub(crate) fn planned_pages(plan: &Plan) -> u8
+    requires fits { length plan.now.content ≤ most_bytes }
+    ensures { result ≡ pages_for (length plan.now.content) }
+{
+    pages_of(plan.content.as_slice().len() as u32)
+}
+
 /// Whether lines say so of one mote. The image has this many pages.
 fn has(reports: &[Report], mote: u8, plan: &Plan, pages: u8) -> bool
     requires pages { pages ≡ pages_for (length plan.now.content) }
-    ensures { result ≡ true → TellsOf plan.now mote reports.now }
+    ensures tells { result ≡ true → TellsOf plan.now mote reports.now }
+    ensures value { result ≡ tells_of plan.now reports.now mote }
 {
     keeps(reports, mote, plan.image, plan.version, pages)
         && (!plan.ordered || runs(reports, mote, plan.image, plan.version))

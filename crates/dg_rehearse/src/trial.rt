@@ -11,8 +11,9 @@ use crate::beginning::golden_line;
 use crate::stop::Stop;
 use dg_base::{Bytes, Event, Step};
 use dg_end::End;
+use dg_lines::write_line;
 use dg_nor::Nor;
-use dg_script::{Line, write_line};
+use dg_script::Line;
 use dg_trial::{TrialRecord, record_trial};
 use std::alloc::{AllocError, Global};
 

@@ -1,17 +1,21 @@
 //! A turn of a mote: its event, and who hears its frame.
-ghost use Rattle.std.specs.Prelude.{◌≡◌, ◌≤◌, ◌<◌, ℕ, List, true, map, Ok, OnOk, Some, None};
+ghost use Rattle.std.specs.Prelude.{◌≡◌, ◌≤◌, ◌<◌, ◌&&◌, ◌%◌, ◌^◌, ℕ, List, true, false, map, Ok, OnOk, Some, None, is_some};
+ghost use Rattle.dg_nor.specs.Device.{Device};
 ghost use Rattle.dg_netcfg.specs.declared.profile.NetProfile.{NetProfile as Profile};
 ghost use Rattle.dg_rules.specs.Events.{mote_of};
 ghost use Rattle.dg_script.specs.Places.{is_linked};
-ghost use Rattle.dg_rehearse.specs.Along.{AreNeighbours};
+ghost use Rattle.dg_rules.specs.World.{World as RuleWorld};
+ghost use Rattle.dg_world.specs.Due.{due_at};
+ghost use Rattle.dg_rehearse.specs.Courses.{Moves, scene, IsStagedWorld};
 ghost use Rattle.dg_rehearse.specs.Rehearsed.{IsRehearsed, IsUnderWay, IsContinued, MoreEvents, IsFull, Staging, staging};
 ghost use Rattle.dg_rehearse.specs.Rehearsed.{SentBy, LastSentBy, GoesAlong};
+ghost use Rattle.dg_rehearse.specs.Turns.{turn_course, delivered_course, heard_course, turn_event, since_moment};
 ghost use Rattle.dg_rehearse.specs.declared.plan.Ending.{Ending as End};
 
-use crate::neighbours::Neighbours;
+use crate::neighbours::are_neighbours;
 use crate::plan::{Ending, Plan};
 use crate::schedule::{Next, Schedule};
-use crate::stage::{Played, Stage};
+use crate::stage::{Played, Stage, later};
 use crate::stop::Halt;
 use dg_base::Event;
 use dg_netcfg::NetProfile;
@@ -31,18 +35,21 @@ impl Schedule {
         requires known { next.mote < profile.now.motes }
         ensures goes_on { OnOk result (IsContinued profile.now plan.now (staging stage.old (map N.device boards.old.items))
             (staging stage.new (map N.device boards.new.items))) }
+        ensures moves { result ≡ Ok Played.Done → Moves (turn_course profile.now plan.now next) profile.now plan.now
+            (scene self.old stage.old (map N.device boards.old.items))
+            (scene self.new stage.new (map N.device boards.new.items)) }
         ensures events { result ≡ Ok Played.Done → MoreEvents (staging stage.old (map N.device boards.old.items))
             (staging stage.new (map N.device boards.new.items)) }
         ensures full { result ≡ Ok Played.TooMany → IsFull (staging stage.new (map N.device boards.new.items)) }
     {
         let dt = since(stage.moment, next.moment);
-        let word = self.draws.next();
+        let word = self.draw();
         let mote = next.mote;
         let event = event_of_turn(stage.world.due(mote).is_some(), mote, dt, word);
         let before = stage.world.frames_sent();
-        let played = self.event(event, mote, profile, plan, stage, boards)?;
+        let played = self.event(event, profile, plan, stage, boards)?;
         // a mote ticks at most once in a millisecond
-        self.rest(mote, stage.moment.saturating_add(1));
+        self.rest(mote, later(stage.moment, 1));
         match played {
             Played::Done => self.deliver(mote, before, profile, plan, stage, boards),
             Played::TooMany => Ok(Played::TooMany),
@@ -64,18 +71,20 @@ impl Schedule {
         requires sent { LastSentBy from before (staging stage.old (map N.device boards.old.items)) }
         ensures goes_on { OnOk result (IsContinued profile.now plan.now (staging stage.old (map N.device boards.old.items))
             (staging stage.new (map N.device boards.new.items))) }
+        ensures moves { result ≡ Ok Played.Done → Moves (delivered_course profile.now plan.now from before) profile.now plan.now
+            (scene self.old stage.old (map N.device boards.old.items))
+            (scene self.new stage.new (map N.device boards.new.items)) }
         ensures full { result ≡ Ok Played.TooMany → IsFull (staging stage.new (map N.device boards.new.items)) }
     {
         let sent = stage.world.frames_sent();
         if sent <= before {
             return Ok(Played::Done);
         }
-        let Ok(frame) = u32::try_from(sent) else {
+        let Some(frame) = numbered(sent) else {
             return Ok(Played::Done);
         };
-        let near = Neighbours::of(from, profile.links.as_slice());
         for mote in 0..profile.motes {
-            match self.hear(&near, mote, frame, profile, plan, stage, boards)? {
+            match self.hear(from, mote, frame, profile, plan, stage, boards)? {
                 Played::Done => {}
                 Played::TooMany => return Ok(Played::TooMany),
             }
@@ -87,7 +96,7 @@ impl Schedule {
     #[tactic(auto, using(crate::proofs::PlayLemmas::goes_nowhere))]
     fn hear<N: Nor>(
         &mut self,
-        near: &Neighbours,
+        from: u8,
         mote: u8,
         frame: u32,
         profile: &NetProfile,
@@ -98,34 +107,62 @@ impl Schedule {
         requires under_way { IsUnderWay profile.now plan.now (staging stage.old (map N.device boards.old.items)) }
         requires known { mote < profile.now.motes }
         requires numbered { 1 ≤ frame }
-        requires sent { SentBy near.now.mote frame (staging stage.old (map N.device boards.old.items)) }
-        requires near { AreNeighbours near.now.are profile.now.links near.now.mote }
+        requires sent { SentBy from frame (staging stage.old (map N.device boards.old.items)) }
         ensures goes_on { OnOk result (IsContinued profile.now plan.now (staging stage.old (map N.device boards.old.items))
             (staging stage.new (map N.device boards.new.items))) }
+        ensures moves { result ≡ Ok Played.Done → Moves (heard_course profile.now plan.now from frame mote) profile.now plan.now
+            (scene self.old stage.old (map N.device boards.old.items))
+            (scene self.new stage.new (map N.device boards.new.items)) }
         ensures full { result ≡ Ok Played.TooMany → IsFull (staging stage.new (map N.device boards.new.items)) }
     {
-        if !self.reaches(near, mote, plan, stage) {
+        if !can_hear(profile, from, mote, stage) {
             return Ok(Played::Done);
         }
-        let word = self.draws.next();
+        let drawn = self.draw();
+        if is_lost(plan.loss, drawn) {
+            return Ok(Played::Done);
+        }
+        let word = self.draw();
         let event = Event::Hear {
             mote,
             dt: 0,
             word,
             frame,
         };
-        self.event(event, mote, profile, plan, stage, boards)
+        self.event(event, profile, plan, stage, boards)
     }
+}
 
-    /// Whether a frame reaches a mote: it is a neighbour, and on, and the draw does not lose the frame.
-    fn reaches(&mut self, near: &Neighbours, mote: u8, plan: &Plan, stage: &Stage) -> bool
-        ensures { (links : List (ℕ × ℕ)) → AreNeighbours near.now.are links near.now.mote → result ≡ true
-            → is_linked links near.now.mote mote ≡ true }
-    {
-        near.has(mote)
-            && stage.world.due(mote).is_some()
-            && self.draws.next() % 100 >= u32::from(plan.loss)
+/// Whether a mote hears another one, if nothing is lost: a link joins them, and it is on.
+fn can_hear(profile: &NetProfile, from: u8, mote: u8, stage: &Stage) -> bool
+    ensures linked { result ≡ true → is_linked profile.now.links from mote ≡ true }
+    ensures value { (boards : List Device) (w : RuleWorld) → IsStagedWorld profile.now (staging stage.now boards) w
+        → mote < profile.now.motes → result ≡ (is_linked profile.now.links from mote && is_some (due_at w mote)) }
+{
+    if !are_neighbours(profile.links.as_slice(), from, mote) {
+        return false;
     }
+    stage.world.due(mote).is_some()
+}
+
+/// The number of the last of so many frames, if a script can name it.
+fn numbered(sent: usize) -> Option<u32>
+    ensures some { (frame : ℕ) → result ≡ Some frame → (frame ≡ sent) × (sent < 2 ^ 32) }
+    ensures none { result ≡ None → 2 ^ 32 ≤ sent }
+{
+    if sent > u32::MAX as usize {
+        None
+    } else {
+        Some(sent as u32)
+    }
+}
+
+/// Whether a draw loses a frame of which so many in a hundred are lost.
+fn is_lost(loss: u8, drawn: u32) -> bool
+    ensures lost { result ≡ true → drawn % 100 < loss }
+    ensures kept { result ≡ false → loss ≤ drawn % 100 }
+{
+    drawn % 100 < u32::from(loss)
 }
 
 /// The event of a mote's turn: a tick if it is on, and otherwise the reset by which it powers on.
@@ -133,6 +170,7 @@ pub(crate) fn event_of_turn(is_on: bool, mote: u8, dt: u32, word: u32) -> Event
     ensures fits { (motes : ℕ) → mote < motes → IsRehearsed motes result }
     ensures mote { mote_of result ≡ mote }
     ensures along { (n : Profile) (s : Staging) → GoesAlong n result s }
+    ensures value { result ≡ turn_event is_on mote dt word }
 {
     if is_on {
         Event::Tick { mote, dt, word }
@@ -142,7 +180,9 @@ pub(crate) fn event_of_turn(is_on: bool, mote: u8, dt: u32, word: u32) -> Event
 }
 
 /// The milliseconds from one moment to another, which is not before it.
-pub(crate) fn since(from: u64, to: u64) -> u32 {
+pub(crate) fn since(from: u64, to: u64) -> u32
+    ensures { result ≡ since_moment from to }
+{
     to.saturating_sub(from).min(u64::from(u32::MAX)) as u32
 }
 

@@ -2,7 +2,7 @@
 use Rattle.std.proofs.Common.{◌≡◌, ◌⊎◌, ◌≢◌, ℕ, zero, suc, ◌<◌, ◌≤◌, Bool, true, false, cond, List, [], ◌∷◌, ◌++◌, length, map, get_or, set, refl, ap, sym, ◌∙◌, inl, inr, ⊎_elim, arith, eqb-true, eq-eqb}
 use Rattle.std.specs.Prelude.{◌-◌, ◌==◌, slice_get, Option, Some, None}
 use Rattle.std.proofs.Math.ListN.{length-set}
-use Rattle.std.proofs.lemmas.Bool.{both_ways, le-leb}
+use Rattle.std.proofs.lemmas.Bool.{both_ways, le-leb, ne_eqb}
 use Rattle.std.proofs.lemmas.List.{get_or-set_same, get_or-set_other, length-map, map-append, length-append}
 use Rattle.dg_frame.specs.Grammar.{in_range}
 use Rattle.dg_frame.specs.Spelling.{frame_of}
@@ -71,6 +71,16 @@ module _ (old new : Air) (by n : ℕ) (before : List Sent) (s : Sent) (is_by : s
       let n_is = others m (by_other by m other) in
       ap (frame_in (before ++ s ∷ [])) n_is ∙ in_before before (s ∷ []) (last_number old m) (carries.numbers m h) ∙ carries.last m h
       ∙ ap (λ (b : Bool). cond b (Some s) (last_by m before None)) (sym (ap (λ (k : ℕ). k == m) is_by ∙ other)) ∙ sym (last_behind m before s None)
+
+-- no frame of a number that no mote has
+none_by : (m : ℕ) (fs : List SentFrame) → most_motes ≤ m → last_by m (map sent_of fs) None ≡ None
+none_by m [] far = refl
+none_by m (f ∷ fs) far =
+    ap (λ (b : Bool). last_by m (map sent_of fs) (cond b (Some (sent_of f)) None)) (ne_eqb f.by m (λ (e : f.by ≡ m). absurd (omega (arith, f.known, far, e))))
+    ∙ none_by m fs far
+
+pub last_unknown : (a : Air) (sent : List Sent) (m : ℕ) → most_motes ≤ m → Carries a sent → last_by m sent None ≡ None
+last_unknown a sent m far carries = ap (λ (ss : List Sent). last_by m ss None) (sym carries.frames) ∙ none_by m a.frames.items far
 
 pub pushed : (old new : Air) (by n : ℕ) (message : Message) (before : List Sent) → (known : by < most_motes) → (ranged : in_range true message ≡ true) → new.frames.items ≡ old.frames.items ++ record { by = by; message = message; known = known; ranged = ranged } ∷ [] → n ≡ length new.frames.items → new.last ≡ set old.last by n
     → Carries old before → Carries new (before ++ sent_now by (Some (frame_of message)))

@@ -8,6 +8,7 @@ use Rattle.dg_nor.specs.Fuse.{beneath_of}
 use Rattle.dg_nor.specs.Reads.{ActStopped}
 use Rattle.dg_volume.specs.Stands.{Stands}
 use Rattle.dg_mote.specs.Motes.{sent_in}
+use Rattle.dg_mote.specs.declared.outbox.Outbox.{Outbox}
 use Rattle.dg_mote.specs.Effects.{reset_effect}
 use Rattle.dg_rules.specs.World.{World as RuleWorld, site, store_at, wide_at}
 use Rattle.dg_rules.specs.Events.{Does, of_effect, tick_does, hear_by, does, mote_of, dt_of}
@@ -16,7 +17,7 @@ use Rattle.dg_base.specs.declared.events.Event.{Event}
 use Rattle.dg_base.specs.declared.events.Event.TheVariants.{Tick, Reset, Frame}
 use Rattle.dg_script.specs.declared.report.Report.{Report}
 use Rattle.dg_world.specs.Alone.{uncut as uncut_step, PlaysAlone, Powers}
-use Rattle.dg_world.specs.inner.Outcomes.{outcome_of, halt_of}
+use Rattle.dg_world.specs.inner.Outcomes.{outcome_of, halt_of, as_outcome}
 use Rattle.dg_world.specs.inner.OutcomeEndings.{outcome_lines, OutcomeEnds}
 use Rattle.dg_node.specs.Hosts.{host}
 use Rattle.dg_world.specs.Worlds.{SiteStands}
@@ -69,6 +70,19 @@ alone_fails fault.NotAVolume t w e v u a b ends = absurd ends
 alone_fails fault.NoImage t w e v u a b ends =
     let p = uncut (Err NoImage) w (mote_of e) (does w e) v u a b ends in
     record { ends = p.ends; endures = p.endures; count = p.count }
+
+-- by what its call answered
+pub alone_ok : (r : Result (Unit {0}) Fault) (t : Outcome) (w : RuleWorld) (e : Event) (v u : Option Node) (a b : Device) → r ≡ Ok tt → mote_of e < length w.sites → SiteStands a v (site w (mote_of e)) → OutcomeEnds (as_outcome r t) w (mote_of e) (does w e) (host a v) (host b u)
+    → PlaysAlone (Ok t.outbox) w e u a b
+alone_ok r t w e v u a b is known stands ends =
+    alone_done t w e v u a b known stands (subst (λ x. OutcomeEnds (as_outcome x t) w (mote_of e) (does w e) (host a v) (host b u)) is ends)
+
+pub alone_err : (r : Result (Unit {0}) Fault) (answer : Result Outbox Fault) (f : Fault) (t : Outcome) (w : RuleWorld) (e : Event) (v u : Option Node) (a b : Device) → r ≡ Err f → IsErrAnd answer (λ x. x ≡ f) → OutcomeEnds (as_outcome r t) w (mote_of e) (does w e) (host a v) (host b u)
+    → PlaysAlone answer w e u a b
+alone_err r (Ok out) f t w e v u a b is same ends = absurd same
+alone_err r (Err x) f t w e v u a b is same ends =
+    subst (λ (y : Fault). PlaysAlone (Err y) w e u a b) (sym same)
+    (alone_fails f t w e v u a b (subst (λ z. OutcomeEnds (as_outcome z t) w (mote_of e) (does w e) (host a v) (host b u)) is ends))
 
 -- ---- starts
 

@@ -1,9 +1,8 @@
 -- Boards whose fault counts do not change.
-use Rattle.std.proofs.Common.{◌≡◌, ◌<◌, List, length, get_or, ap, sym, ◌∙◌, arith}
+use Rattle.std.proofs.Common.{◌≡◌, ◌<◌, List, length, get_or, ◌∙◌, arith}
 use Rattle.std.proofs.lemmas.Option.{slice_get-get_or, slice_get_within}
 use Rattle.dg_nor.specs.Device.{Device}
 use Rattle.dg_world.specs.Counts.{NoneRose}
-use Rattle.dg_world.proofs.BoardLemmas.{same_some}
 
 -- over one list of boards and then another
 pub NoneRose_then : (old mid new : List Device) → length mid ≡ length old → NoneRose old mid → NoneRose mid new → NoneRose old new

@@ -22,7 +22,7 @@ use Rattle.dg_world.specs.declared.context.EventContext.{EventContext}
 use Rattle.dg_node.specs.declared.node.Node.{Node}
 use Rattle.dg_world.specs.inner.EventOutcomes.{EventOutcome, Halt, Refused}
 
--- what `apply_event` ensures
+-- what `apply_apart` ensures
 abbrev pub ApplyEnsures : Result EventOutcome Halt → RuleWorld → EventContext → (v u : Option Node) → Device → Device → Event → Type 0
 ApplyEnsures r w o v u a b event = AppliesIn o w event a v → OutcomeEnds r w (mote_of event) (does w event) (host a v) (host b u)
 

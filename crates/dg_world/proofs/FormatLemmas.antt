@@ -1,11 +1,10 @@
 -- Boards that are formatted one after the other.
-use Rattle.std.proofs.Common.{◌≡◌, ◌≢◌, ℕ, ◌+◌, ◌<◌, ◌≤◌, inl, inr, false, List, length, refl, ap, sym, ◌∙◌, subst, arith}
+use Rattle.std.proofs.Common.{◌≡◌, ◌≢◌, ℕ, ◌+◌, ◌<◌, ◌≤◌, inl, inr, false, List, length, ap, sym, ◌∙◌, subst, arith}
 use Rattle.std.specs.Prelude.{Some, Result, Err, slice_get}
 use Rattle.std.proofs.Math.ListN.{length-set}
 use Rattle.std.proofs.lemmas.Bool.{cases_eq, both_ways}
 use Rattle.dg_nor.specs.Device.{Device, Endures, Ran}
 use Rattle.dg_nor.specs.Fuse.{beneath_of}
-use Rattle.dg_nor.proofs.DeviceLemmas.{Endures-same}
 use Rattle.dg_nor.proofs.MaskLemmas.{Endures_ran}
 use Rattle.dg_nor.specs.Reads.{ActStopped}
 use Rattle.dg_control.specs.Store.{HasForm}

@@ -13,6 +13,7 @@ pub mod KnownLemmas
 pub mod MakesLemmas
 pub mod DispatchLemmas
 pub mod UnseenLemmas
+pub mod FindLemmas
 pub mod CutLemmas
 pub mod BoardLemmas
 pub mod CountLemmas

@@ -1,6 +1,6 @@
 -- A step of the world where the board and the mote of one place changed.
 use Rattle.std.proofs.Common.{◌≡◌, ◌≢◌, ◌⊎◌, ℕ, zero, suc, ◌+◌, ◌^◌, ◌<◌, Bool, true, false, List, [], ◌∷◌, length, get_or, set, map, refl, ap, sym, ◌∙◌, subst, inl, inr, ⊎_elim, arith, eqb-true, eq-eqb}
-use Rattle.std.specs.Prelude.{◌↔◌, ◌≤◌, ◌++◌, ◌==◌, IfSome, Result, OnOk, slice_get, slice_index_or, Option, Some, None, Ok, Err}
+use Rattle.std.specs.Prelude.{◌↔◌, ◌≤◌, ◌++◌, ◌==◌, IfSome, Result, slice_get, slice_index_or, Option, Some, None, Ok, Err}
 use Rattle.std.proofs.Math.ListN.{length-set}
 use Rattle.std.proofs.lemmas.List.{get_or-set_same, get_or-set_other, get_or_read}
 use Rattle.std.proofs.lemmas.Option.{same_Some}
@@ -24,7 +24,6 @@ use Rattle.dg_rules.specs.World.{World as RuleWorld, Running, Site, Sent, no_sit
 use Rattle.dg_rules.specs.Premises.{WorldTimely}
 use Rattle.dg_rules.specs.Events.{does, mote_of, dt_of}
 use Rattle.dg_rules.specs.Steps.{cut_world, WorldStep}
-use Rattle.dg_script.specs.Ranges.{StepInRange}
 use Rattle.dg_base.specs.declared.events.Step.{Step}
 use Rattle.dg_script.specs.declared.report.Report.{Report}
 use Rattle.dg_object.specs.Object.{Row}

@@ -114,7 +114,7 @@ known_unseen D x known same is unseen = subst (λ (y : Bool). RefusesUnseen (if 
 abbrev pub Unused : {N E : Type 0} (r : Result (Unit {0}) E) (old new : N) → Type 0
 Unused r old new = (new ≡ old) × OnErr r ⊥
 
--- what the clause `unseen` of `apply_event` says
+-- what the clause `unseen` of `apply_apart` says
 abbrev pub StaysUnused : {N E : Type 0} → Result (Unit {0}) E → (old new : N) → RuleWorld → EventContext → Device → Option Node → Event → Type 0
 StaysUnused r old new w o a v event = AppliesIn o w event a v → RefusesUnseen (does w event) → Unused r old new
 

@@ -26,7 +26,7 @@ use Rattle.dg_world.proofs.DoneLemmas.{step_outcome, step_fails, event_mote}
 use Rattle.dg_world.proofs.KnownLemmas.{step_sees, outcome_refused, refused_outcome, refused_told, inject_takes, order_takes}
 use Rattle.dg_world.proofs.OutcomeLemmas.{frame_told}
 
--- what the clauses of `apply_event` say
+-- what the clauses of `apply_apart` say
 pub record AppliedSo (r : Result (Unit {0}) Fault) (o : EventContext) (event : Event) (t : Outcome) (a b : BoardState) : Type 0 where
   pub ends : (w : RuleWorld) → AppliesIn o w event a.board a.runs → OutcomeEnds (as_outcome r t) w (mote_of event) (does w event) (host a.board a.runs) (host b.board b.runs)
   pub unseen : (w : RuleWorld) → AppliesIn o w event a.board a.runs → RefusesUnseen (does w event) → (b.board ≡ a.board) × OnErr r ⊥

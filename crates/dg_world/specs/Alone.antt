@@ -31,13 +31,8 @@ IsAlone (Frame mote dt word bytes) = Unit {0}
 
 -- a mote powers on
 abbrev pub IsReset : Event → Type 0
-IsReset (Tick mote dt word) = ⊥
-IsReset (Hear mote dt word frame) = ⊥
-IsReset (Last from to dt word) = ⊥
 IsReset (Reset mote dt word) = Unit {0}
-IsReset (Inject mote image version dt word) = ⊥
-IsReset (OrderEvent mote number image version dt word) = ⊥
-IsReset (Frame mote dt word bytes) = ⊥
+IsReset event = ⊥
 
 -- the event without a cut
 abbrev pub uncut : Event → Step

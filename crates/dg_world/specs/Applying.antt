@@ -39,8 +39,8 @@ pub record ApplyDone (r : Result (Unit {0}) WorldFault) (x : Step) (reported : B
   pub a_volume : r ≡ Err NotAVolume → ⊥
   -- after it a board is known exactly if it is orderly then, and was known before or made known by the step
   pub known : OnOk r ((w : RuleWorld) → IsOf a w → KnowsThen w x.event a.world b.world b.boards)
-  -- an order, whatever it answers, and a refused injection mount a known board again by halving; an order does so once more
-  -- after a cut that fired
+  -- an order, whatever it answers, and a refused injection mount a known board again by binary search; an order does so
+  -- once more after a cut that fired
   pub order_reads : (w : RuleWorld) (m : ℕ) (old new : Device) → IsOf a w → m ≡ mote_of x.event → known_of a.world m ≡ true
       → slice_get a.boards m ≡ Some old → slice_get b.boards m ≡ Some new → OrderTakes x.event old new
   pub inject_reads : OnOk r ((w : RuleWorld) (m : ℕ) (old new : Device) → IsOf a w → m ≡ mote_of x.event

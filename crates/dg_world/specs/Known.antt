@@ -1,4 +1,4 @@
--- Boards that are known: they may be mounted again by halving (docs/IMAGES.md, "Mounting again").
+-- Boards that are known: they may be mounted again by binary search (docs/IMAGES.md, "Mounting again").
 use Rattle.std.specs.Prelude.{◌≡◌, ◌≢◌, ◌+◌, ◌*◌, ℕ, Bool, false, slice_index_or}
 use Rattle.dg_nor.specs.Device.{Device, Took}
 use Rattle.dg_control.specs.Sizes.{place_size}

@@ -4,6 +4,7 @@ pub mod Neighbours
 pub mod Shareds
 pub mod Deployments
 pub mod Worlds
+pub mod Due
 pub mod Knows
 pub mod Counts
 pub mod Boards

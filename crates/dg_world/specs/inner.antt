@@ -7,6 +7,7 @@ pub mod CutEnds
 pub mod EventKinds
 pub mod EventOutcomes
 pub mod Faults
+pub mod Finds
 pub mod Finished
 pub mod OutcomeEndings
 pub mod Outcomes

@@ -98,6 +98,18 @@ impl Air {
         Some(&self.frames[number - 1])
     }
 
+    /// The number of the last frame of a mote, 0 where it sent none.
+    pub(crate) fn last_number(&self, by: u8) -> usize
+        ensures { (sent : List Sent) → Carries self.now sent → frame_in sent result ≡ last_by by sent None }
+    {
+        let by = usize::from(by);
+        if by < self.last.len() {
+            self.last[by]
+        } else {
+            0
+        }
+    }
+
     /// The last frame of a mote.
     pub(crate) fn last_of(&self, by: u8) -> Option<&SentFrame>
         requires known { by < most_motes }

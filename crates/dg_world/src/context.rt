@@ -16,7 +16,7 @@ pub(crate) struct EventContext<'a> {
     pub(crate) mote: u8,
     /// The moment, in milliseconds.
     pub(crate) moment: u64,
-    /// Whether the board is known: it may be mounted again by halving.
+    /// Whether the board is known: it may be mounted again by binary search.
     pub(crate) known: bool,
     /// Whether a frame that is sent is reported.
     pub(crate) reported: bool,

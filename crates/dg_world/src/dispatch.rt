@@ -12,8 +12,8 @@ ghost use Rattle.dg_world.specs.inner.Sees.{EventSees, EventReads};
 ghost use Rattle.dg_world.specs.inner.Contexts.{MayApply, AppliesIn};
 
 use crate::context::EventContext;
-use crate::events::EventKind;
-use crate::hearing::{hear, hear_last, hear_numbered};
+use crate::finding::{find_last, find_nth};
+use crate::hearing::{hear, hear_found};
 use crate::injecting::inject_known;
 use crate::ordering::order_known;
 use crate::outcome::{Fault, Outcome};
@@ -23,38 +23,8 @@ use dg_node::Node;
 use dg_nor::Nor;
 use dg_rules::{Event, ImageVersion};
 
-/// What an event does at the board of its mote, which runs `runs`. Where the board is known it is mounted again by halving.
-/// Ticks and last frames are the common events; the others are in a function of their own.
-#[inline(always)]
-pub(crate) fn apply_event<N: Nor>(
-    context: &EventContext<'_>,
-    runs: &mut Option<Node>,
-    event: &Event,
-    board: &mut N,
-    outcome: &mut Outcome,
-) -> Result<(), Fault>
-    requires fits { (motes : ℕ) × EventInRange motes event.now × (motes ≤ most_motes) }
-    requires may { MayApply context.now event.now (N.device board.old) runs.old }
-    requires nothing { IsNothing outcome.old }
-    ensures ends { (w : RuleWorld) → AppliesIn context.now w event.now (N.device board.old) runs.old
-        → OutcomeEnds (as_outcome result outcome.new) w (mote_of event.now) (does w event.now)
-        (host (N.device board.old) runs.old) (host (N.device board.new) runs.new) }
-    // an event that is refused without a look at the chip uses no board
-    ensures unseen { (w : RuleWorld) → AppliesIn context.now w event.now (N.device board.old) runs.old
-        → RefusesUnseen (does w event.now) → (board.new ≡ board.old) × OnErr result ⊥ }
-    ensures sees { OnOk result (EventSees event.now outcome.new runs.new (N.device board.old).image (N.device board.new).image) }
-    ensures reads { EventReads event.now context.now.known (OnErr result ⊥) outcome.new.refused (N.device board.old)
-        (N.device board.new) }
-    ensures same_reference { (N.device board.new).references ≡ (N.device board.old).references }
-{
-    match context.kind {
-        EventKind::Tick { word, .. } => tick(runs, context.moment, word, board, outcome),
-        EventKind::Last { from, word, .. } => hear_last(context, runs, from, word, board, outcome),
-        EventKind::Other => apply_apart(*context, runs, event, board, outcome),
-    }
-}
-
-/// The same, not inlined. It takes the context by value, so that common events need none in memory.
+/// What an event does at the board of its mote, which runs `runs`. Where the board is known it is mounted again by halving. It is
+/// not inlined, and takes the context by value, so that the common events, which pass it by, need none in memory.
 #[inline(never)]
 pub(crate) fn apply_apart<N: Nor>(
     context: EventContext<'_>,
@@ -81,9 +51,11 @@ pub(crate) fn apply_apart<N: Nor>(
     match event {
         Event::Tick { word, .. } => tick(runs, now, *word, board, outcome),
         Event::Hear { word, frame, .. } => {
-            hear_numbered(&context, runs, *frame, *word, board, outcome)
+            hear_found(runs, now, *word, find_nth(&context, *frame), board, outcome)
         }
-        Event::Last { from, word, .. } => hear_last(&context, runs, *from, *word, board, outcome),
+        Event::Last { from, word, .. } => {
+            hear_found(runs, now, *word, find_last(&context, *from), board, outcome)
+        }
         Event::Frame { word, bytes, .. } => {
             let frame = bytes.as_slice();
             hear(runs, now, *word, frame, board, outcome)

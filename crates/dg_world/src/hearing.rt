@@ -1,24 +1,22 @@
 //! A mote hears a frame.
-ghost use Rattle.std.specs.Prelude.{◌≡◌, ◌^◌, ◌<◌, ℕ, true, if◌then◌else◌, Option, Some, None, OnOk, OnErr, IsTrue};
-ghost use Rattle.dg_frame.specs.Grammar.{in_range};
-ghost use Rattle.dg_frame.specs.Spelling.{frame_of};
-ghost use Rattle.dg_rules.specs.World.{World as RuleWorld, site, store_at, frame_at, linked, last_frame};
-ghost use Rattle.dg_rules.specs.Events.{Refuses, hear_by, heard_sent, heard_last, unless_off};
-ghost use Rattle.dg_rules.specs.Sizes.{most_motes};
-ghost use Rattle.dg_world.specs.Shareds.{IsShared};
+ghost use Rattle.std.specs.Prelude.{◌≡◌, ◌^◌, ◌<◌, ℕ, OnOk, OnErr, IsTrue};
+ghost use Rattle.dg_rules.specs.World.{World as RuleWorld, site, store_at};
+ghost use Rattle.dg_rules.specs.Events.{Does, hear_by, unless_off};
+ghost use Rattle.dg_world.specs.inner.Finds.{IsFound, IsRanged};
 ghost use Rattle.dg_world.specs.Worlds.{SiteStands, MayRun};
 ghost use Rattle.dg_world.specs.inner.OutcomeEndings.{LeavesChip, OutcomeEnds};
 ghost use Rattle.dg_node.specs.Hosts.{host};
 ghost use Rattle.dg_world.specs.Unseen.{RefusesUnseen};
-ghost use Rattle.dg_world.specs.inner.Outcomes.{IsNothing, as_outcome};
+ghost use Rattle.dg_world.specs.inner.EventOutcomes.{Changes};
+ghost use Rattle.dg_world.specs.inner.Outcomes.{IsNothing, as_outcome, outcome_of};
+ghost use Rattle.dg_node.specs.declared.report.ChipReport.{ChipReport};
 ghost use Rattle.dg_world.specs.inner.Sees.{SeesMote};
 ghost use Rattle.dg_volume.specs.Store.{Store};
 ghost use Rattle.dg_volume.specs.Stands.{Tells};
 ghost use Rattle.dg_node.specs.Reports.{IsReportOf};
 
-use crate::context::EventContext;
+use crate::finding::Found;
 use crate::outcome::{Fault, Outcome};
-use dg_frame::Message;
 use dg_mote::Heard;
 use dg_node::{ChipReport, Node, report_chip};
 use dg_nor::{Nor, Stopped};
@@ -50,6 +48,20 @@ fn keep_report(volume: &Volume, report: &mut ChipReport)
 {
     report.order = volume.snapshot().order;
     report.kept = volume.kept_images();
+}
+
+/// The chip may have changed: what is reported of it now is noted beside what was kept. It is not inlined: most frames change
+/// nothing that is reported.
+#[inline(never)]
+fn note_change(volume: &Volume, outcome: &mut Outcome)
+    requires { IsNothing outcome.old }
+    ensures outcome { (after : ChipReport) × (outcome_of outcome.new ≡ Changes outcome.old.kept after)
+        × ((s : Store) → Tells volume.now s → IsReportOf after s) }
+    ensures untold { outcome.new.orderly ≡ None }
+{
+    outcome.before = Some(outcome.kept);
+    outcome.after = Some(report_chip(volume));
+    outcome.is_told = true;
 }
 
 /// A mote that is on hears a frame: its own volume exposes what its chip keeps. A mote that is off refuses it.
@@ -86,9 +98,7 @@ pub(crate) fn hear<N: Nor>(
             if leaves_chip(heard) {
                 return Ok(());
             }
-            outcome.before = Some(outcome.kept);
-            outcome.after = Some(report_chip(node.volume()));
-            outcome.is_told = true;
+            note_change(node.volume(), outcome);
             Ok(())
         }
         Err(Stopped) => {
@@ -99,26 +109,26 @@ pub(crate) fn hear<N: Nor>(
     }
 }
 
-/// The frame of a message that was sent is heard in the same way.
+/// A mote that is on hears the frame that was found, if there is one, in the same way.
 #[inline(always)]
-pub(crate) fn hear_sent<N: Nor>(
+pub(crate) fn hear_found<N: Nor>(
     runs: &mut Option<Node>,
     now: u64,
     word: u32,
-    message: &Message,
+    found: Found<'_>,
     board: &mut N,
     outcome: &mut Outcome,
 ) -> Result<(), Fault>
     requires mote { MayRun (N.device board.old).image now runs.old }
     requires moment { now < 2 ^ 62 }
-    requires range { in_range true message.now ≡ true }
+    requires range { IsRanged found }
     requires nothing { IsNothing outcome.old }
-    ensures ends { (w : RuleWorld) (m : ℕ) → SiteStands (N.device board.old) runs.old (site w m)
-        → OutcomeEnds (as_outcome result outcome.new) w m
-        (hear_by w (store_at w m) (site w m).runs now word (frame_of message.now))
+    ensures ends { (w : RuleWorld) (m : ℕ) (does : Does) → SiteStands (N.device board.old) runs.old (site w m)
+        → IsFound found.entry w m now word does
+        → OutcomeEnds (as_outcome result outcome.new) w m (unless_off (site w m).runs does)
         (host (N.device board.old) runs.old) (host (N.device board.new) runs.new) }
-    ensures unseen { (w : RuleWorld) (m : ℕ) → SiteStands (N.device board.old) runs.old (site w m)
-        → RefusesUnseen (hear_by w (store_at w m) (site w m).runs now word (frame_of message.now))
+    ensures unseen { (w : RuleWorld) (m : ℕ) (does : Does) → SiteStands (N.device board.old) runs.old (site w m)
+        → IsFound found.entry w m now word does → RefusesUnseen (unless_off (site w m).runs does)
         → (board.new ≡ board.old) × OnErr result ⊥ }
     ensures sees { OnOk result (SeesMote outcome.new runs.new (N.device board.old).image (N.device board.new).image) }
     ensures same_reference { (N.device board.new).references ≡ (N.device board.old).references }
@@ -128,6 +138,14 @@ pub(crate) fn hear_sent<N: Nor>(
         outcome.is_told = true;
         return Ok(());
     };
+    let message = match found {
+        Found::Frame(message) => message,
+        Found::Nothing(cause) => {
+            outcome.refused = Some(cause);
+            outcome.is_told = true;
+            return Ok(());
+        }
+    };
     keep_report(node.volume(), &mut outcome.kept);
     match node.hear_sent(board, now, word, message) {
         Ok(heard) => {
@@ -135,9 +153,7 @@ pub(crate) fn hear_sent<N: Nor>(
             if leaves_chip(heard) {
                 return Ok(());
             }
-            outcome.before = Some(outcome.kept);
-            outcome.after = Some(report_chip(node.volume()));
-            outcome.is_told = true;
+            note_change(node.volume(), outcome);
             Ok(())
         }
         Err(Stopped) => {
@@ -145,101 +161,5 @@ pub(crate) fn hear_sent<N: Nor>(
             outcome.is_told = true;
             Err(Fault::Stopped)
         }
-    }
-}
-
-/// The frame with a number is heard, if it was sent, and by a neighbour.
-#[inline(never)]
-pub(crate) fn hear_numbered<N: Nor>(
-    context: &EventContext<'_>,
-    runs: &mut Option<Node>,
-    number: u32,
-    word: u32,
-    board: &mut N,
-    outcome: &mut Outcome,
-) -> Result<(), Fault>
-    requires mote { MayRun (N.device board.old).image context.now.moment runs.old }
-    requires nothing { IsNothing outcome.old }
-    ensures ends { (w : RuleWorld) → IsShared context.now.shared.now w
-        → SiteStands (N.device board.old) runs.old (site w context.now.mote)
-        → OutcomeEnds (as_outcome result outcome.new) w context.now.mote
-        (unless_off (site w context.now.mote).runs (heard_sent w context.now.mote context.now.moment word
-        (frame_at w number)))
-        (host (N.device board.old) runs.old) (host (N.device board.new) runs.new) }
-    ensures unseen { (w : RuleWorld) → IsShared context.now.shared.now w
-        → SiteStands (N.device board.old) runs.old (site w context.now.mote)
-        → RefusesUnseen (unless_off (site w context.now.mote).runs (heard_sent w context.now.mote context.now.moment word
-        (frame_at w number)))
-        → (board.new ≡ board.old) × OnErr result ⊥ }
-    ensures sees { OnOk result (SeesMote outcome.new runs.new (N.device board.old).image (N.device board.new).image) }
-    ensures same_reference { (N.device board.new).references ≡ (N.device board.old).references }
-{
-    if runs.is_none() {
-        outcome.refused = Some(Cause::Off);
-        outcome.is_told = true;
-        return Ok(());
-    }
-    match context.shared.air.get(number as usize) {
-        None => {
-            outcome.refused = Some(Cause::Frame);
-            outcome.is_told = true;
-            Ok(())
-        }
-        Some(sent) => {
-            if context.shared.links.are_joined(sent.by, context.mote) {
-                hear_sent(runs, context.moment, word, &sent.message, board, outcome)
-            } else {
-                outcome.refused = Some(Cause::Link);
-                outcome.is_told = true;
-                Ok(())
-            }
-        }
-    }
-}
-
-/// The last frame of a mote is heard, if it is a neighbour, and sent one.
-#[inline(always)]
-pub(crate) fn hear_last<N: Nor>(
-    context: &EventContext<'_>,
-    runs: &mut Option<Node>,
-    from: u8,
-    word: u32,
-    board: &mut N,
-    outcome: &mut Outcome,
-) -> Result<(), Fault>
-    requires sender { from < most_motes }
-    requires mote { MayRun (N.device board.old).image context.now.moment runs.old }
-    requires nothing { IsNothing outcome.old }
-    ensures ends { (w : RuleWorld) → IsShared context.now.shared.now w
-        → SiteStands (N.device board.old) runs.old (site w context.now.mote)
-        → OutcomeEnds (as_outcome result outcome.new) w context.now.mote
-        (unless_off (site w context.now.mote).runs (if linked w from context.now.mote
-        then heard_last w from context.now.mote context.now.moment word (last_frame w from) else Refuses Cause.Link))
-        (host (N.device board.old) runs.old) (host (N.device board.new) runs.new) }
-    ensures unseen { (w : RuleWorld) → IsShared context.now.shared.now w
-        → SiteStands (N.device board.old) runs.old (site w context.now.mote)
-        → RefusesUnseen (unless_off (site w context.now.mote).runs (if linked w from context.now.mote
-        then heard_last w from context.now.mote context.now.moment word (last_frame w from) else Refuses Cause.Link))
-        → (board.new ≡ board.old) × OnErr result ⊥ }
-    ensures sees { OnOk result (SeesMote outcome.new runs.new (N.device board.old).image (N.device board.new).image) }
-    ensures same_reference { (N.device board.new).references ≡ (N.device board.old).references }
-{
-    if runs.is_none() {
-        outcome.refused = Some(Cause::Off);
-        outcome.is_told = true;
-        return Ok(());
-    }
-    if !context.shared.links.are_joined(from, context.mote) {
-        outcome.refused = Some(Cause::Link);
-        outcome.is_told = true;
-        return Ok(());
-    }
-    match context.shared.air.last_of(from) {
-        None => {
-            outcome.refused = Some(Cause::Frame);
-            outcome.is_told = true;
-            Ok(())
-        }
-        Some(sent) => hear_sent(runs, context.moment, word, &sent.message, board, outcome),
     }
 }

@@ -1,4 +1,4 @@
-//! Which boards a world knows: those that may be mounted again by halving.
+//! Which boards a world knows: those that may be mounted again by binary search.
 ghost use Rattle.std.specs.Prelude.{◌||◌, ◌≡◌, ◌≢◌, ◌↔◌, ◌<◌, ℕ, List, Option, Some, None, IsTrue, true, false, length};
 ghost use Rattle.std.specs.Prelude.{slice_index_or};
 ghost use Rattle.dg_nor.specs.Device.{Device};
@@ -21,7 +21,7 @@ use dg_node::Node;
 use dg_rules::{Event, ImageVersion};
 
 impl World {
-    /// Whether the board of a mote is known: it is orderly, and the world mounts it again by halving. A reset makes the
+    /// Whether the board of a mote is known: it is orderly, and the world mounts it again by binary search. A reset makes the
     /// board of its mote known, and so do an injection and an order that are not refused as `reserved` or `image`.
     pub fn known(&self, mote: u8) -> bool
         requires { (boards : List Device) × (w : RuleWorld) × IsWorld self.now boards w × (mote < length w.sites) }

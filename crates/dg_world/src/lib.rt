@@ -11,6 +11,7 @@ mod cutting;
 mod declare;
 mod dispatch;
 mod events;
+mod finding;
 mod finish;
 mod format;
 mod hearing;

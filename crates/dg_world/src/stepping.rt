@@ -28,8 +28,12 @@ ghost use Rattle.dg_node.specs.Known.{IsKnownChip, SeesOrder};
 use crate::chip_report::{MOST_CHANGES, push_changes, push_line};
 use crate::context::EventContext;
 use crate::cutting::play_cut;
-use crate::dispatch::apply_event;
+use crate::dispatch::apply_apart;
+use crate::events::EventKind;
+use crate::finding::find_last;
+use crate::hearing::hear_found;
 use crate::outcome::{Fault, Outcome, Power};
+use crate::ticking::tick;
 use dg_frame::{Message, is_read_back};
 use dg_mote::Outbox;
 use dg_node::{ChipReport, Node, StartedImage, mount_known, report_chip};
@@ -286,8 +290,9 @@ fn step_cut<N: Nor>(
     Ok(())
 }
 
-/// A step at the board of its mote, which runs `runs`. Its frame is left in the outbox. There is capacity for what is
-/// reported.
+/// A step at the board of its mote, which runs `runs`. Where the board is known it is mounted again by halving. Its frame is
+/// left in the outbox. There is capacity for what is reported. Ticks and last frames are the common events; the others are in a
+/// function of their own.
 #[inline(always)]
 pub(crate) fn step_at<N: Nor>(
     context: &EventContext<'_>,
@@ -306,11 +311,24 @@ pub(crate) fn step_at<N: Nor>(
         (board_state (N.device board.old) runs.old out.old.items) (board_state (N.device board.new) runs.new out.new.items) }
 {
     match cut {
-        None => {
-            apply_event(context, runs, event, board, outcome)?;
-            push_outcome(context.mote, outcome, context.reported, out);
-            Ok(())
-        }
         Some(cut) => step_cut(*context, runs, event, cut, board, outcome, out),
+        None => match context.kind {
+            EventKind::Tick { word, .. } => {
+                tick(runs, context.moment, word, board, outcome)?;
+                push_outcome(context.mote, outcome, context.reported, out);
+                Ok(())
+            }
+            EventKind::Last { from, word, .. } => {
+                let found = find_last(context, from);
+                hear_found(runs, context.moment, word, found, board, outcome)?;
+                push_outcome(context.mote, outcome, context.reported, out);
+                Ok(())
+            }
+            EventKind::Other => {
+                apply_apart(*context, runs, event, board, outcome)?;
+                push_outcome(context.mote, outcome, context.reported, out);
+                Ok(())
+            }
+        },
     }
 }

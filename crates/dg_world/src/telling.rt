@@ -6,7 +6,8 @@ ghost use Rattle.dg_frame.specs.Spelling.{frame_of};
 ghost use Rattle.dg_mote.specs.Effects.{tick_effect};
 ghost use Rattle.dg_mote.specs.Motes.{sent_in};
 ghost use Rattle.dg_node.specs.Nodes.{rest_effect};
-ghost use Rattle.dg_rules.specs.World.{World as RuleWorld, Running, site, store_at};
+ghost use Rattle.dg_rules.specs.World.{World as RuleWorld, Running, site, store_at, frame_at, last_frame};
+ghost use Rattle.dg_world.specs.Due.{due_at};
 ghost use Rattle.dg_world.specs.Worlds.{IsWorld};
 
 use crate::links::MOST_MOTES;
@@ -34,11 +35,20 @@ impl World {
     /// The message of the frame with this number, counted from 1.
     pub fn frame(&self, number: usize) -> Option<&Message>
         ensures range { IfSome result (λ m. in_range true m.now ≡ true) }
+        ensures sent { (boards : List Device) (w : RuleWorld) → IsWorld self.now boards w
+            → option_map (λ m. frame_of m.now) result ≡ option_map (λ s. s.bytes) (frame_at w number) }
     {
         match self.shared.air.get(number) {
             Some(sent) => Some(&sent.message),
             None => None,
         }
+    }
+
+    /// The number of the last frame of a mote, 0 if it sent none.
+    pub fn last_frame(&self, mote: u8) -> usize
+        ensures { (boards : List Device) (w : RuleWorld) → IsWorld self.now boards w → frame_at w result ≡ last_frame w mote }
+    {
+        self.shared.air.last_number(mote)
     }
 
     /// Whether two motes are neighbours.
@@ -59,13 +69,16 @@ impl World {
 
     /// The moment before which a tick of a mote changes nothing and sends nothing. None where it is off.
     pub fn due(&self, mote: u8) -> Option<u64>
-        ensures { IfSome result (λ moment. (boards : List Device) (d : Device) (w : RuleWorld) (r : Running) (now word : ℕ)
+        ensures rests { IfSome result (λ moment. (boards : List Device) (d : Device) (w : RuleWorld) (r : Running) (now word : ℕ)
             → IsWorld self.now boards w → mote < length w.sites → slice_get boards mote ≡ Some d → (site w mote).runs ≡ Some r
             → now < moment → tick_effect r.mote (store_at w mote) now word ≡ rest_effect r.mote (store_at w mote)) }
+        ensures value { (boards : List Device) (w : RuleWorld) → IsWorld self.now boards w → mote < length w.sites
+            → result ≡ due_at w mote }
     {
         match self.motes.get(usize::from(mote)) {
             Some(Some(node)) => Some(node.due()),
-            _ => None,
+            Some(None) => None,
+            None => None,
         }
     }
 }

@@ -14,7 +14,7 @@ pub struct World {
     pub(crate) shared: Shared,
     /// Each mote, None where it is off.
     pub(crate) motes: Vec<Option<Node>>,
-    /// The motes whose boards are known: they may be mounted again by halving.
+    /// The motes whose boards are known: they may be mounted again by binary search.
     pub(crate) known: [bool; MOST_MOTES],
     /// The outcome of an event. It is kept only to reuse its memory: filling this many bytes again takes long compared with
     /// most events.

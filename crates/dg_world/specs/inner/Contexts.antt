@@ -12,7 +12,7 @@ use Rattle.dg_world.specs.declared.context.EventContext.{EventContext}
 use Rattle.dg_node.specs.declared.node.Node.{Node}
 
 -- The event may be applied in this context: the kind and the mote are its own, what runs there is in time, and a board that
--- is known is one that may be mounted again by halving.
+-- is known is one that may be mounted again by binary search.
 pub record MayApply (o : EventContext) (event : Event) (board : Device) (runs : Option Node) : Type 0 where
   pub kind : IsEventKind o.kind event
   pub here : o.mote ≡ mote_of event

@@ -7,7 +7,6 @@ use Rattle.dg_control.specs.Mounted.{IsControlOf}
 use Rattle.dg_volume.specs.Stands.{control_of}
 use Rattle.dg_mote.specs.Motes.{volume_of}
 use Rattle.dg_rules.specs.World.{World as RuleWorld}
-use Rattle.dg_rules.specs.Events.{does}
 use Rattle.dg_base.specs.declared.events.Event.{Event}
 use Rattle.dg_base.specs.declared.events.Event.TheVariants.{Tick, Hear, Last, Reset, Inject, Order as OrderEvent, Frame}
 use Rattle.dg_script.specs.declared.report.Cause.{Cause}

@@ -1,5 +1,5 @@
 -- What a step reports, and how it leaves its board.
-use Rattle.std.specs.Prelude.{◌≡◌, ℕ, ◌+◌, Bool, true, length, List, ◌++◌, Option, Result, Ok, Err, OnOk, OnErr, IsTrue}
+use Rattle.std.specs.Prelude.{◌≡◌, ℕ, Bool, true, length, List, ◌++◌, Option, Result, Ok, Err, OnOk, OnErr, IsTrue}
 use Rattle.dg_nor.specs.Device.{Device, Endures}
 use Rattle.dg_nor.specs.Fuse.{beneath_of}
 use Rattle.dg_nor.specs.Trail.{Trail, Leaves}

@@ -1,6 +1,7 @@
 use Rattle.std.proofs.Common.{subst, sym, ap, ◌∙◌}
-use Rattle.dg_rules.specs.World.{site, store_at}
-use Rattle.dg_rules.specs.Events.{hear_by, mote_of}
+use Rattle.dg_rules.specs.World.{site, store_at, frame_at}
+use Rattle.dg_rules.specs.Events.{hear_by, heard_sent, mote_of}
+use Rattle.dg_world.specs.inner.Finds.{last_heard}
 use Rattle.dg_world.specs.inner.Outcomes.{as_outcome}
 use Rattle.dg_world.proofs.DispatchLemmas.{ApplyEnsures, tick_applies, hear_applies, last_applies, frame_applies, reset_applies, inject_applies, order_applies, ends_at}
 use Rattle.dg_world.proofs.UnseenLemmas.{StaysUnused, unseen_at, tick_unseen, hear_unseen, last_unseen, frame_unseen, reset_unseen, inject_unseen, order_unseen}
@@ -16,14 +17,18 @@ returns-in-Tick-clause-ends g c = λ w.
 pub returns-in-Hear-clause-ends : goal.returns-in-Hear-clause-ends
 returns-in-Hear-clause-ends g c = λ w.
     let e = c.in-Hear in
-    let x = c.hear_numbered in
-    subst (ApplyEnsures (as_outcome x.result x.new.outcome) w c.args.context c.args.runs.now x.new.runs _ _) (sym e.is) (hear_applies (as_outcome x.result x.new.outcome) w c.args.context c.args.runs.now x.new.runs _ _ e.mote e.dt e.word e.frame (c.requires.may.here ∙ ap mote_of e.is) (x.ensures.ends w))
+    let x = c.hear_found in
+    let m = c.args.context.mote in
+    let found = c.find_nth.ensures.found w e.word in
+    subst (ApplyEnsures (as_outcome x.result x.new.outcome) w c.args.context c.args.runs.now x.new.runs _ _) (sym e.is) (hear_applies (as_outcome x.result x.new.outcome) w c.args.context c.args.runs.now x.new.runs _ _ e.mote e.dt e.word e.frame (c.requires.may.here ∙ ap mote_of e.is) (λ shared stands. x.ensures.ends w m (heard_sent w m c.args.context.moment e.word (frame_at w e.frame)) stands (found shared)))
 
 pub returns-in-Last-clause-ends : goal.returns-in-Last-clause-ends
 returns-in-Last-clause-ends g c = λ w.
     let e = c.in-Last in
-    let x = c.hear_last in
-    subst (ApplyEnsures (as_outcome x.result x.new.outcome) w c.args.context c.args.runs.now x.new.runs _ _) (sym e.is) (last_applies (as_outcome x.result x.new.outcome) w c.args.context c.args.runs.now x.new.runs _ _ e.from e.to e.dt e.word (c.requires.may.here ∙ ap mote_of e.is) (x.ensures.ends w))
+    let x = c.hear_found-in-Last in
+    let m = c.args.context.mote in
+    let found = c.find_last.ensures.found w e.word in
+    subst (ApplyEnsures (as_outcome x.result x.new.outcome) w c.args.context c.args.runs.now x.new.runs _ _) (sym e.is) (last_applies (as_outcome x.result x.new.outcome) w c.args.context c.args.runs.now x.new.runs _ _ e.from e.to e.dt e.word (c.requires.may.here ∙ ap mote_of e.is) (λ shared stands. x.ensures.ends w m (last_heard w e.from m c.args.context.moment e.word) stands (found shared)))
 
 pub returns-in-Frame-clause-ends : goal.returns-in-Frame-clause-ends
 returns-in-Frame-clause-ends g c = λ w.
@@ -62,16 +67,20 @@ returns-in-Tick-clause-unseen g c = λ w.
 pub returns-in-Hear-clause-unseen : goal.returns-in-Hear-clause-unseen
 returns-in-Hear-clause-unseen g c = λ w.
     let e = c.in-Hear in
-    let x = c.hear_numbered in
+    let x = c.hear_found in
+    let m = c.args.context.mote in
+    let found = c.find_nth.ensures.found w e.word in
     subst (StaysUnused x.result c.args.board.now x.new.board w c.args.context _ c.args.runs.now) (sym e.is)
-    (hear_unseen x.result c.args.board.now x.new.board w c.args.context _ c.args.runs.now e.mote e.dt e.word e.frame (c.requires.may.here ∙ ap mote_of e.is) (x.ensures.unseen w))
+    (hear_unseen x.result c.args.board.now x.new.board w c.args.context _ c.args.runs.now e.mote e.dt e.word e.frame (c.requires.may.here ∙ ap mote_of e.is) (λ shared stands. x.ensures.unseen w m (heard_sent w m c.args.context.moment e.word (frame_at w e.frame)) stands (found shared)))
 
 pub returns-in-Last-clause-unseen : goal.returns-in-Last-clause-unseen
 returns-in-Last-clause-unseen g c = λ w.
     let e = c.in-Last in
-    let x = c.hear_last in
+    let x = c.hear_found-in-Last in
+    let m = c.args.context.mote in
+    let found = c.find_last.ensures.found w e.word in
     subst (StaysUnused x.result c.args.board.now x.new.board w c.args.context _ c.args.runs.now) (sym e.is)
-    (last_unseen x.result c.args.board.now x.new.board w c.args.context _ c.args.runs.now e.from e.to e.dt e.word (c.requires.may.here ∙ ap mote_of e.is) (x.ensures.unseen w))
+    (last_unseen x.result c.args.board.now x.new.board w c.args.context _ c.args.runs.now e.from e.to e.dt e.word (c.requires.may.here ∙ ap mote_of e.is) (λ shared stands. x.ensures.unseen w m (last_heard w e.from m c.args.context.moment e.word) stands (found shared)))
 
 pub returns-in-Frame-clause-unseen : goal.returns-in-Frame-clause-unseen
 returns-in-Frame-clause-unseen g c = λ w.
@@ -108,13 +117,13 @@ pub returns-in-Tick-clause-reads : goal.returns-in-Tick-clause-reads
 returns-in-Tick-clause-reads g c = reads_at c.args.context.known _ _ _ _ _ _ c.in-Tick.is tt
 
 pub returns-in-Hear-clause-sees : goal.returns-in-Hear-clause-sees
-returns-in-Hear-clause-sees g c = sees_at c.hear_numbered.result c.hear_numbered.new.outcome c.hear_numbered.new.runs _ _ _ _ c.in-Hear.is c.hear_numbered.ensures.sees
+returns-in-Hear-clause-sees g c = sees_at c.hear_found.result c.hear_found.new.outcome c.hear_found.new.runs _ _ _ _ c.in-Hear.is c.hear_found.ensures.sees
 
 pub returns-in-Hear-clause-reads : goal.returns-in-Hear-clause-reads
 returns-in-Hear-clause-reads g c = reads_at c.args.context.known _ _ _ _ _ _ c.in-Hear.is tt
 
 pub returns-in-Last-clause-sees : goal.returns-in-Last-clause-sees
-returns-in-Last-clause-sees g c = sees_at c.hear_last.result c.hear_last.new.outcome c.hear_last.new.runs _ _ _ _ c.in-Last.is c.hear_last.ensures.sees
+returns-in-Last-clause-sees g c = sees_at c.hear_found-in-Last.result c.hear_found-in-Last.new.outcome c.hear_found-in-Last.new.runs _ _ _ _ c.in-Last.is c.hear_found-in-Last.ensures.sees
 
 pub returns-in-Last-clause-reads : goal.returns-in-Last-clause-reads
 returns-in-Last-clause-reads g c = reads_at c.args.context.known _ _ _ _ _ _ c.in-Last.is tt

@@ -5,7 +5,7 @@ use Rattle.dg_rules.specs.World.{site, store_at}
 use Rattle.dg_rules.specs.Events.{hear_by}
 use Rattle.dg_world.specs.inner.EventOutcomes.{Unreported, Changes, Stopped}
 use Rattle.dg_node.specs.declared.node.Node.{Node}
-use Rattle.dg_world.proofs.OutcomeLemmas.{told_as, is_refused, is_changed, is_sent}
+use Rattle.dg_world.proofs.OutcomeLemmas.{told_as, is_refused, is_sent}
 use Rattle.dg_world.proofs.TickLemmas.{off_as, on_as, node_changes, node_rests, node_stopped_with, node_tells, hear_same}
 use Rattle.dg_mote.specs.Effects.{frame_effect}
 use Rattle.dg_world.specs.Worlds.{MayRun}
@@ -24,13 +24,13 @@ returns-else-leaves_chip-clause-ends g c = λ w m stands.
     let v : Node = c.in-Some.node in
     let u : Node = c.hear.new.self in
     let n = c.requires.nothing in
-    told_as w m _ _ _ _ _ _ _ (is_changed _ _ _ c.keep_report.new.report c.report_chip.result n.sent n.refused n.started)
-    (on_as (λ o. hear_by w s o c.args.now c.args.word c.args.bytes.now) (Ok (Changes c.keep_report.new.report c.report_chip.result)) w m c.args.runs.now v (Some u) _ s (site w m).runs _ _ c.in-Some.is stands.mote
+    told_as w m _ _ _ _ _ _ _ c.note_change.ensures.outcome.1
+    (on_as (λ o. hear_by w s o c.args.now c.args.word c.args.bytes.now) (Ok (Changes c.keep_report.new.report c.note_change.ensures.outcome.0)) w m c.args.runs.now v (Some u) _ s (site w m).runs _ _ c.in-Some.is stands.mote
     (λ r mote.
     let done = c.in-Ok.ensures.done r.mote s mote.1 in
     let e = frame_effect r.mote s c.args.now c.args.word c.args.bytes.now in
-    node_changes w m e (Some r.image_version) (Some v) _ _ (λ _. ap Some (sym mote.0)) u c.keep_report.new.report c.report_chip.result done
-    (c.keep_report.ensures s (subst (λ v. Tells v s) (sym c.volume.ensures) mote.1.mounted.tells)) (c.report_chip.ensures (last e.trail) (subst (λ v. Tells v (last e.trail)) (sym c.volume-in-Ok.ensures) (node_tells e None (Some v) u _ _ done.0)))))
+    node_changes w m e (Some r.image_version) (Some v) _ _ (λ _. ap Some (sym mote.0)) u c.keep_report.new.report c.note_change.ensures.outcome.0 done
+    (c.keep_report.ensures s (subst (λ v. Tells v s) (sym c.volume.ensures) mote.1.mounted.tells)) (c.note_change.ensures.outcome.2 (last e.trail) (subst (λ v. Tells v (last e.trail)) (sym c.volume-in-Ok.ensures) (node_tells e None (Some v) u _ _ done.0)))))
 
 pub returns-then-leaves_chip-clause-ends : goal.returns-then-leaves_chip-clause-ends
 returns-then-leaves_chip-clause-ends g c = λ w m stands.

@@ -4,6 +4,9 @@ use Rattle.dg_rehearse.specs.Ended.{Ends}
 use Rattle.dg_rehearse.specs.Rehearsed.{staging}
 use Rattle.dg_rehearse.proofs.PlayLemmas.{goes_to, still_under_way, then_ends, more_later}
 use Rattle.dg_rehearse.proofs.EndLemmas.{complete_ends, some_same}
+use Rattle.std.proofs.Common.{map}
+use Rattle.dg_rehearse.specs.Courses.{agenda_of, scene}
+use Rattle.dg_rehearse.proofs.ClockLemmas.{on_complete, on_turn}
 use Rattle.dg_rehearse.proofs.schedule.Schedule.play_next.Goals as goal
 
 pub play_coming-requires-clause-under_way : goal.play_coming-requires-clause-under_way
@@ -20,3 +23,10 @@ returns-clause-events g c = λ is. more_later c.args.profile.now c.args.plan.now
 
 pub returns-then-branch-clause-ends : goal.returns-then-branch-clause-ends
 returns-then-branch-clause-ends g c = λ e is. complete_ends e c.args.profile.now c.args.plan.now _ _ _ (some_same _ e is) (c.in_ok-is_complete.ensures.complete (ap Ok c.if-branch.true))
+
+pub returns-then-branch-clause-by_clock : goal.returns-then-branch-clause-by_clock
+returns-then-branch-clause-by_clock g c = on_complete c.args.profile.now c.args.plan.now (scene c.args.self.now c.args.stage.now (map g.N.Nor.device c.args.boards.now.items)) (scene c.args.self.now c.is_complete.new.stage (map g.N.Nor.device c.is_complete.new.boards.items)) (c.in_ok-is_complete.ensures.value _ (ap Ok c.if-branch.true)) c.in_ok-is_complete.ensures.moves
+
+pub returns-clause-by_clock : goal.returns-clause-by_clock
+returns-clause-by_clock g c =
+    on_turn c.play_coming.result c.args.profile.now c.args.plan.now (scene c.args.self.now c.args.stage.now (map g.N.Nor.device c.args.boards.now.items)) (scene c.args.self.now c.is_complete.new.stage (map g.N.Nor.device c.is_complete.new.boards.items)) (scene c.play_coming.new.self c.play_coming.new.stage (map g.N.Nor.device c.play_coming.new.boards.items)) (c.in_ok-is_complete.ensures.value _ (ap Ok c.if-branch.false)) c.in_ok-is_complete.ensures.moves c.play_coming.ensures.by_clock
