@@ -34,6 +34,8 @@ use Rattle.dg_cost_text.specs.Table.{table_of_rows}
 use Rattle.dg_cost_text.specs.declared.rows.Counted.{Counted}
 use Rattle.dg_cost_text.specs.declared.rows.Rows.{Rows}
 use Rattle.dg_count.specs.Ended.{with_ended, counts_at}
+use Rattle.dg_events.specs.FrameCounters.{AreFrames, no_frames}
+use Rattle.dg_cost.proofs.FrameLemmas.{mote_frames}
 use Rattle.dg_count.specs.Runs.{CountedRun, CountedReplay}
 use Rattle.dg_count.specs.declared.costs.Costs.{Costs}
 use Rattle.dg_count.specs.declared.counter.Counter.{Counter}
@@ -162,8 +164,8 @@ declared_ms (p ∷ ps) =
 -- ---- the counts of a replay
 
 pub run_rows : {table : List Row} {script : Script} (c : Counter) (ran : Status) (came : Progress table script) (counted : Counted)
-    → CountedReplay c came → IsCountOf c ran counted → CountsRun ran came counted
-run_rows c ran came counted replay is = record {
+    → c.frames.lost ≡ false → CountedReplay c came → IsCountOf c ran counted → CountsRun ran came counted
+run_rows c ran came counted kept replay is = record {
   motes = is.motes ∙ replay.motes;
   ended = is.ended;
   whole = is.whole;
@@ -181,6 +183,12 @@ run_rows c ran came counted replay is = record {
       omega (arith, get_within counted.motes.items m rows there, is.motes, replay.few, replay.events.counted.motes) in
       mote_events c.events is.ended m came.played (get_or c.events.motes m no_counts) (table_of_rows rows) replay.events
       (replay.events.counted.each m (get_or c.events.motes m no_counts) (get_there c.events.motes m no_counts lt)) (is.each m rows there);
+  frames = λ m rows there.
+      let are : AreFrames c.frames.sent.items c.frames.motes (events_played came.played) = replay.frames kept in
+      let lt : m < length c.frames.motes =
+      omega (arith, get_within counted.motes.items m rows there, is.motes, replay.few, are.many) in
+      mote_frames m (events_played came.played) c.frames.sent.items c.frames.motes (get_or c.frames.motes m no_frames) (table_of_rows rows) replay.times.few are
+      (are.each m (get_or c.frames.motes m no_frames) (get_there c.frames.motes m no_frames lt)) (is.frames m rows there);
 }
 
 -- what a text shows of counts
@@ -199,31 +207,32 @@ SeenReplay c ran a b = (table : List Row) → (x : Replayed table ran a b) × Co
 
 -- what a counter costs besides does not matter
 cost_shows : (asked : Form) (c : Counter) (costs : Costs) (ran : Status) (a b : Around) (report text : List ℕ)
-    → SeenReplay c ran a b → IsText asked (IsCountOf (record c { costs = costs }) ran) report text
+    → c.frames.lost ≡ false → SeenReplay c ran a b → IsText asked (IsCountOf (record c { costs = costs }) ran) report text
     → IsText asked (CountsReplay ran a b) report text
-cost_shows asked c costs ran a b report text seen is =
+cost_shows asked c costs ran a b report text kept seen is =
     text_shows asked (IsCountOf (record c { costs = costs }) ran) (CountsReplay ran a b) report text shows is
   where
     same : (table : List Row) → CountedReplay (record c { costs = costs }) (seen table).0.came
     same table = record {
       events = (seen table).1.events;
       times = (seen table).1.times;
+      frames = (seen table).1.frames;
       motes = (seen table).1.motes;
       few = (seen table).1.few;
     }
 
     shows : (counted : Counted) → IsCountOf (record c { costs = costs }) ran counted → CountsReplay ran a b counted
     shows counted has table =
-        ((seen table).0, run_rows (record c { costs = costs }) ran (seen table).0.came counted (same table) has)
+        ((seen table).0, run_rows (record c { costs = costs }) ran (seen table).0.came counted kept (same table) has)
 
 -- A report was kept from none on, and the text was made of it and of the counts.
 pub rehearsed : (asked : Form) (c : Counter) (costs : Costs) (ran status : Status) (a b : Around) (kept report shown text : List ℕ)
-    (faults : ℕ) (before after : List Device) → kept ≡ [] → shown ≡ report
+    (faults : ℕ) (before after : List Device) → c.frames.lost ≡ false → kept ≡ [] → shown ≡ report
     → ReplayDone ran (around a.left a.reads (Some kept) 0 before) (around b.left b.reads (Some report) faults after)
     → SeenReplay c ran (around a.left a.reads (Some kept) 0 before) (around b.left b.reads (Some report) faults after)
     → IsText asked (IsCountOf (record c { costs = costs }) ran) shown text → CostWrote ran status text a b
     → Rehearsed asked status a b
-rehearsed asked c costs ran status a b kept report shown text faults before after none same done seen is wrote = record {
+rehearsed asked c costs ran status a b kept report shown text faults before after valid none same done seen is wrote = record {
   ran = ran;
   report = report;
   faults = faults;
@@ -231,7 +240,7 @@ rehearsed asked c costs ran status a b kept report shown text faults before afte
   after = after;
   replayed = subst (λ (xs : List ℕ). ReplayDone ran (around a.left a.reads (Some xs) 0 before) end) none done;
   text = text;
-  is_text = cost_shows asked c costs ran (around a.left a.reads (Some []) 0 before) end report text
+  is_text = cost_shows asked c costs ran (around a.left a.reads (Some []) 0 before) end report text valid
       (subst (λ (xs : List ℕ). SeenReplay c ran (around a.left a.reads (Some xs) 0 before) end) none seen)
       (subst (λ (xs : List ℕ). IsText asked (IsCountOf (record c { costs = costs }) ran) xs text) same is);
   wrote = wrote;

@@ -20,6 +20,7 @@ use Rattle.dg_cost_text.specs.declared.rows.Rows.{Rows}
 use Rattle.dg_count.specs.declared.place.EventPlace.{EventPlace}
 use Rattle.dg_cost.specs.EventRows.{HasRows, HasEvents}
 use Rattle.dg_cost.specs.TimeRows.{time_rows, moment_rows}
+use Rattle.dg_cost.specs.FrameRows.{HasFrameRows}
 use Rattle.dg_cost.specs.declared.call.Form.{Form}
 use Rattle.dg_cost.specs.declared.call.Form.TheVariants.{Table, Csv, Json, Timed}
 
@@ -35,6 +36,8 @@ pub record CountsRun {table : List Row} {script : Script} (ran : Status) (came :
       → HasRows (time_rows m (events_played came.played)) (table_of_rows rows)
   pub each : (m : ℕ) (rows : Rows) → slice_get counted.motes.items m ≡ Some rows
       → HasEvents ended m came.played (table_of_rows rows)
+  pub frames : (m : ℕ) (rows : Rows) → slice_get counted.motes.items m ≡ Some rows
+      → HasFrameRows m (events_played came.played) (table_of_rows rows)
 
 -- whichever table the boards are checked against, these are the counts of that replay
 abbrev pub CountsReplay : (ran : Status) → (a b : Around) → Counted → Type 0

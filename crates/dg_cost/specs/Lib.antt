@@ -1,4 +1,5 @@
 pub mod EventRows
 pub mod TimeRows
+pub mod FrameRows
 pub mod Counting
 pub mod Costs

@@ -168,7 +168,7 @@ pub fn cost<S: Source, K: Sink, N: Nor>(
     };
     let mut counter = Counter::new(alloc, given, asked.is_timed());
     let status = replay_counted(alloc, input, &mut report, boards, &mut counter);
-    if counter.costs.failed || 0 < report.faults {
+    if counter.failed() || 0 < report.faults {
         return Status::Memory;
     }
     look_again(&mut counter.costs, boards);

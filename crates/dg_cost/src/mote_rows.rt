@@ -6,6 +6,8 @@ ghost use Rattle.dg_count.specs.Ended.{counts_at};
 ghost use Rattle.dg_cost.specs.Counting.{IsCountOf};
 ghost use Rattle.dg_events.specs.Uptimes.{never_on};
 ghost use Rattle.dg_cost.specs.EventRows.{rows_of_events, rows_of_starts, rows_of_images, HasCounts, HasRows};
+ghost use Rattle.dg_events.specs.FrameCounters.{no_frames};
+ghost use Rattle.dg_cost.specs.FrameRows.{counted_rows, HasFrameCounts};
 ghost use Rattle.dg_cost.specs.TimeRows.{rows_of_power, rows_of_moment};
 
 use crate::flash_rows::{push_chip, with_flash};
@@ -13,10 +15,10 @@ use crate::moment_rows::{push_all_moments, push_wholes};
 use dg_base::Status;
 use dg_cost_text::{Counted, Moment, Part, Rows, total_of};
 use dg_count::{
-    ANSWERS, Counter, EventPlace, FAULTS, FRAMES, HEARD, MOTES, Moments, MoteCost, PACKET, PUT,
-    SENT_KINDS, SentBy, TRACED, TRACED_PUT, USED, narrow, share_of,
+    ANSWERS, Counter, EventPlace, FAULTS, FRAMES, MOTES, Moments, MoteCost, PACKET, PUT, SentBy,
+    TRACED, TRACED_PUT, USED, narrow, sent_by_each, share_of,
 };
-use dg_events::{CAUSES, EVENTS, EventCounts, Uptime, Uptimes};
+use dg_events::{CAUSES, EVENTS, EventCounts, FrameCounts, HEARD, SENT_KINDS, Uptime, Uptimes};
 use dg_meter::Share;
 use std::alloc::{AllocError, Global};
 
@@ -63,23 +65,29 @@ fn push_events(rows: &mut Rows, events: &EventCounts) -> Result<(), AllocError>
     Ok(())
 }
 
-/// The frames that a mote sent, and those that no mote heard.
-fn push_sent(rows: &mut Rows, by: &SentBy) -> Result<(), AllocError> {
-    for kind in 0..SENT_KINDS {
-        rows.share("sent.", FRAMES[kind], share_of(kind, by.without(kind, 0)))?;
-    }
+/// So many frames of each kind, with their bytes.
+fn push_kinds(rows: &mut Rows, before: &str, counts: &[u64; SENT_KINDS]) -> Result<(), AllocError>
+    ensures { OnOk result (table_of_rows rows.new ≡ table_of_rows rows.old ++ counted_rows before.now counts.now) }
+{
+    rows.share(before, "advert", share_of(0, counts[0]))?;
+    rows.share(before, "request", share_of(1, counts[1]))?;
+    rows.share(before, "packet", share_of(2, counts[2]))?;
+    rows.share(before, "wide", share_of(3, counts[3]))?;
+    Ok(())
+}
+
+/// The rows of the frames that a mote sent and no mote heard.
+fn unheard_rows(alloc: Global, by: &SentBy) -> Result<Rows, AllocError> {
+    let mut rows = Rows::new(alloc);
     for kind in 0..SENT_KINDS {
         let parts = [Part::Text("unheard."), Part::Text(FRAMES[kind])];
         rows.push_ended(&parts, ".count", by.without(kind, HEARD), true)?;
     }
-    Ok(())
+    Ok(rows)
 }
 
-/// The frames that a mote heard, and what it did with them.
+/// The frames that came to a mote from outside, and what it did with those that it heard.
 fn push_heard(rows: &mut Rows, cost: &MoteCost) -> Result<(), AllocError> {
-    for kind in 0..SENT_KINDS {
-        rows.share("heard.", FRAMES[kind], cost.heard(kind))?;
-    }
     rows.shares("outside.", &FRAMES, &cost.outside)?;
     rows.shares("refused.frame.", &FAULTS, &cost.refused_frames)?;
     rows.shares("refused.outside.", &FAULTS, &cost.refused_outside)?;
@@ -119,10 +127,9 @@ fn push_images(rows: &mut Rows, events: &EventCounts) -> Result<(), AllocError>
     Ok(())
 }
 
-/// The rows between those of events and those of starts.
+/// The rows between those of heard frames and those of starts.
 fn frame_rows(alloc: Global, cost: &MoteCost, by: &SentBy) -> Result<Rows, AllocError> {
     let mut rows = Rows::new(alloc);
-    push_sent(&mut rows, by)?;
     push_heard(&mut rows, cost)?;
     push_packets(&mut rows, cost, by)?;
     Ok(rows)
@@ -157,16 +164,21 @@ fn mote_rows(
     cost: &MoteCost,
     by: &SentBy,
     events: &EventCounts,
+    frames: &FrameCounts,
     uptime: &Uptime,
     ms: u64,
     moments: &Moments,
 ) -> Result<Rows, AllocError>
     ensures counts { IfOk result (λ rows. HasCounts events.now (table_of_rows rows)) }
     ensures power { IfOk result (λ rows. HasRows (rows_of_power uptime.now ms) (table_of_rows rows)) }
+    ensures frames { IfOk result (λ rows. HasFrameCounts frames.now (table_of_rows rows)) }
 {
     let mut rows = Rows::new(alloc);
     push_power(&mut rows, uptime, ms)?;
     push_events(&mut rows, events)?;
+    push_kinds(&mut rows, "sent.", &frames.sent)?;
+    rows.append(unheard_rows(alloc, by)?)?;
+    push_kinds(&mut rows, "heard.", &frames.heard)?;
     rows.append(frame_rows(alloc, cost, by)?)?;
     push_starts(&mut rows, events)?;
     rows.append(failed_rows(alloc, cost)?)?;
@@ -187,19 +199,17 @@ fn push_sums(all: &mut Rows, motes: &[Rows], first: &Rows) -> Result<(), AllocEr
 }
 
 /// The frames and the operations of all motes.
-fn push_totals(all: &mut Rows, counter: &Counter, by: &[SentBy]) -> Result<(), AllocError> {
+fn push_totals(all: &mut Rows, counter: &Counter) -> Result<(), AllocError> {
     let mut sent = Share::none();
-    for one in by {
+    let mut heard = Share::none();
+    for frames in &counter.frames.motes {
         for kind in 0..SENT_KINDS {
-            sent = sent.with(share_of(kind, one.without(kind, 0)));
+            sent = sent.with(share_of(kind, frames.sent[kind]));
+            heard = heard.with(share_of(kind, frames.heard[kind]));
         }
     }
-    let mut heard = Share::none();
     let mut flash = (0, 0, 0);
     for cost in &counter.costs.motes {
-        for kind in 0..SENT_KINDS {
-            heard = heard.with(cost.heard(kind));
-        }
         flash = with_flash(flash, cost);
     }
     all.own("sent.frames", sent.count)?;
@@ -212,16 +222,11 @@ fn push_totals(all: &mut Rows, counter: &Counter, by: &[SentBy]) -> Result<(), A
 }
 
 /// The rows of all motes before those of the last event.
-fn summed_rows(
-    alloc: Global,
-    motes: &[Rows],
-    counter: &Counter,
-    by: &[SentBy],
-) -> Result<Rows, AllocError> {
+fn summed_rows(alloc: Global, motes: &[Rows], counter: &Counter) -> Result<Rows, AllocError> {
     let mut all = Rows::new(alloc);
     if let Some(first) = motes.first() {
         push_sums(&mut all, motes, first)?;
-        push_totals(&mut all, counter, by)?;
+        push_totals(&mut all, counter)?;
         push_all_moments(&mut all, &counter.costs.moments)?;
     }
     all.own("run.motes", u64::from(counter.costs.count))?;
@@ -243,13 +248,12 @@ fn all_rows(
     alloc: Global,
     motes: &[Rows],
     counter: &Counter,
-    by: &[SentBy],
     last: Moment,
     status: Status,
 ) -> Result<Rows, AllocError>
     ensures { IfOk result (λ all. HasRows (rows_of_moment last.event last.ms) (table_of_rows all)) }
 {
-    let mut all = summed_rows(alloc, motes, counter, by)?;
+    let mut all = summed_rows(alloc, motes, counter)?;
     push_moment(&mut all, last)?;
     all.own("run.status", u64::from(status.code()))?;
     Ok(all)
@@ -278,6 +282,8 @@ fn rows_of_motes(
         → HasCounts (counts_at ended counter.now.events m) (table_of_rows rows)) }
     ensures power { IfOk result (λ motes. (m : ℕ) (rows : Rows) → slice_get motes.items m ≡ Some rows
         → HasRows (rows_of_power (slice_index_or times.now.motes m never_on) times.now.ms) (table_of_rows rows)) }
+    ensures frames { IfOk result (λ motes. (m : ℕ) (rows : Rows) → slice_get motes.items m ≡ Some rows
+        → HasFrameCounts (slice_index_or counter.now.frames.motes m no_frames) (table_of_rows rows)) }
 {
     let mut motes = Vec::new(alloc);
     for mote in 0..usize::from(counter.placed) {
@@ -287,15 +293,19 @@ fn rows_of_motes(
             Some(sent) => *sent,
             None => SentBy::none(),
         };
+        let frames = counter.frames.at(mote);
+        let uptime = times.at(mote);
+        let moments = &counter.costs.moments;
         let rows = mote_rows(
             alloc,
             narrow(mote),
             &cost,
             &sent,
             &events,
-            &times.at(mote),
+            &frames,
+            &uptime,
             times.ms,
-            &counter.costs.moments,
+            moments,
         )?;
         motes.push(rows)?;
     }
@@ -306,14 +316,11 @@ fn rows_of_motes(
 pub fn counted(alloc: Global, counter: &Counter, status: Status) -> Result<Counted, AllocError>
     ensures { IfOk result (λ counted. IsCountOf counter.now status counted) }
 {
-    let by = counter
-        .costs
-        .frames
-        .sent_by_each(alloc, usize::from(counter.placed))?;
+    let by = sent_by_each(alloc, &counter.frames, usize::from(counter.placed))?;
     let ended = ended_event(counter, status);
     let times = counter.times_until(ended);
     let motes = rows_of_motes(alloc, counter, ended, &times, &by)?;
-    let all = all_rows(alloc, &motes, counter, &by, counter.last(ended), status)?;
+    let all = all_rows(alloc, &motes, counter, counter.last(ended), status)?;
     Ok(Counted {
         motes,
         all,

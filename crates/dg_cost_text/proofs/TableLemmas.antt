@@ -1,11 +1,22 @@
 -- Rows that are appended to a table.
 use Rattle.std.proofs.Common.{◌≡◌, ℕ, zero, suc, ◌<◌, ◌≤◌, ◌+◌, ◌∷◌, ◌++◌, [], List, map, min, length, take, get_or, refl, ap, sym, ◌∙◌, append_assoc, append-nil, arith, Result, Ok, Err, OnOk}
 use Rattle.std.proofs.lemmas.List.{take_all}
-use Rattle.dg_cost_text.specs.Table.{named_rows, Begins}
+use Rattle.std.specs.Prelude.{codes}
+use Rattle.dg_cost_text.specs.Table.{named_rows, share_rows, Begins}
 
 -- the key of two parts and an end
 pub two_parts : (a b c : List ℕ) → (a ++ (b ++ [])) ++ c ≡ a ++ (b ++ c)
 two_parts a b c = ap (λ (t : List ℕ). (a ++ t) ++ c) (append-nil b) ∙ append_assoc a b c
+
+-- the two rows of a share
+pub share_more : {mid new : List (List ℕ × ℕ)} (old : List (List ℕ × ℕ)) (before name : List ℕ) (n b : ℕ)
+    → mid ≡ old ++ ((before ++ (name ++ [])) ++ codes ".count", n) ∷ [] → new ≡ mid ++ ((before ++ (name ++ [])) ++ codes ".bytes", b) ∷ []
+    → new ≡ old ++ share_rows before name n b
+share_more {mid} {new} old before name n b first next =
+    next ∙ ap (λ (t : List (List ℕ × ℕ)). t ++ ((before ++ (name ++ [])) ++ codes ".bytes", b) ∷ []) first
+    ∙ append_assoc old (((before ++ (name ++ [])) ++ codes ".count", n) ∷ []) (((before ++ (name ++ [])) ++ codes ".bytes", b) ∷ [])
+    ∙ ap (λ (k : List ℕ). old ++ (k, n) ∷ ((before ++ (name ++ [])) ++ codes ".bytes", b) ∷ []) (two_parts before name (codes ".count"))
+    ∙ ap (λ (k : List ℕ). old ++ (before ++ (name ++ codes ".count"), n) ∷ (k, b) ∷ []) (two_parts before name (codes ".bytes"))
 
 -- ---- one more name
 
@@ -47,6 +58,14 @@ begins_more {a} {b} {c} x y = record { more = x.more ++ y.more; is = y.is ∙ ap
 
 pub begins_rows : {a b : List (List ℕ × ℕ)} (rows : List (List ℕ × ℕ)) → b ≡ a ++ rows → Begins a b
 begins_rows rows is = record { more = rows; is = is }
+
+-- two rows, whose keys have one beginning
+pub two_rows : {first new : List (List ℕ × ℕ)} (old : List (List ℕ × ℕ)) (key one other : List ℕ) (a b : ℕ) → first ≡ old ++ (key ++ one, a) ∷ []
+    → new ≡ first ++ (key ++ other, b) ∷ [] → new ≡ old ++ ((key ++ []) ++ one, a) ∷ ((key ++ []) ++ other, b) ∷ []
+two_rows {first} {new} old key one other a b is next =
+    next ∙ ap (λ (rows : List (List ℕ × ℕ)). rows ++ (key ++ other, b) ∷ []) is
+    ∙ append_assoc old ((key ++ one, a) ∷ []) ((key ++ other, b) ∷ [])
+    ∙ ap (λ (k : List ℕ). old ++ (k ++ one, a) ∷ (k ++ other, b) ∷ []) (sym (append-nil key))
 
 -- what follows if a call succeeded
 pub then_on : {T E P Q : Type 0} (r : Result T E) → (P → Q) → OnOk r P → OnOk r Q

@@ -1,3 +1,4 @@
 pub mod Table
+pub mod Moments
 pub mod Csv
 pub mod Timed

@@ -1,5 +1,5 @@
 -- Rows as keys and values (docs/COMMANDS.md, "What a script costs").
-use Rattle.std.specs.Prelude.{◌≡◌, ℕ, List, [], ◌∷◌, ◌++◌, map}
+use Rattle.std.specs.Prelude.{◌≡◌, ℕ, List, [], ◌∷◌, ◌++◌, map, codes}
 use Rattle.std.specs.List.{flat_map}
 use Rattle.std.specs.Fmt.{decimal}
 use Rattle.dg_cost_text.specs.declared.rows.Part.{Part}
@@ -29,6 +29,11 @@ named_rows before after [] values = []
 named_rows before after (name ∷ names) [] = []
 named_rows before after (name ∷ names) (value ∷ values) =
     (before ++ (name ++ after), value) ∷ named_rows before after names values
+
+-- the two rows of a share
+abbrev pub share_rows : (before name : List ℕ) → (count bytes : ℕ) → List (List ℕ × ℕ)
+share_rows before name count bytes =
+    (before ++ (name ++ codes ".count"), count) ∷ (before ++ (name ++ codes ".bytes"), bytes) ∷ []
 
 -- The table begins with these rows.
 pub record Begins (rows table : List (List ℕ × ℕ)) : Type 0 where

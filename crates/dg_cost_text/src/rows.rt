@@ -1,6 +1,7 @@
 //! What was counted, as rows of a key and a value.
 ghost use Rattle.std.specs.Prelude.{◌≡◌, ◌∷◌, ◌++◌, [], map, min, length, OnOk, IfOk};
-ghost use Rattle.dg_cost_text.specs.Table.{part_text, key_of, table_of_rows, named_rows, Begins};
+ghost use Rattle.dg_cost_text.specs.Moments.{what_key, whole_key, rows_at};
+ghost use Rattle.dg_cost_text.specs.Table.{part_text, key_of, table_of_rows, named_rows, share_rows, Begins};
 
 use crate::moment::{Moment, What};
 use dg_base::push_u32;
@@ -143,7 +144,8 @@ impl Rows {
 
     /// Two rows for a share.
     pub fn share(&mut self, before: &str, name: &str, share: Share) -> Result<(), AllocError>
-        ensures { OnOk result (Begins (table_of_rows self.old) (table_of_rows self.new)) }
+        ensures { OnOk result (table_of_rows self.new ≡ table_of_rows self.old
+            ++ share_rows before.now name.now share.count share.bytes) }
     {
         let parts = [Part::Text(before), Part::Text(name)];
         self.push_ended(&parts, ".count", share.count, true)?;
@@ -168,7 +170,7 @@ impl Rows {
 
     /// The two rows of a moment.
     pub fn moment(&mut self, what: What, at: Moment) -> Result<(), AllocError>
-        ensures { OnOk result (Begins (table_of_rows self.old) (table_of_rows self.new)) }
+        ensures { OnOk result (table_of_rows self.new ≡ table_of_rows self.old ++ rows_at (what_key what) at) }
     {
         self.what_rows(what, at)?;
         self.moments.push((what, at))?;
@@ -176,7 +178,7 @@ impl Rows {
     }
 
     fn what_rows(&mut self, what: What, at: Moment) -> Result<(), AllocError>
-        ensures { OnOk result (Begins (table_of_rows self.old) (table_of_rows self.new)) }
+        ensures { OnOk result (table_of_rows self.new ≡ table_of_rows self.old ++ rows_at (what_key what) at) }
     {
         match what {
             What::Whole {
@@ -201,29 +203,26 @@ impl Rows {
     }
 
     fn whole(&mut self, image: u8, version: u32, times: u32, at: Moment) -> Result<(), AllocError>
-        ensures { OnOk result (Begins (table_of_rows self.old) (table_of_rows self.new)) }
+        ensures { OnOk result (table_of_rows self.new
+            ≡ table_of_rows self.old ++ rows_at (whole_key image version times) at) }
     {
-        let again = 1 < times;
-        let parts = [
-            Part::Text("whole."),
-            Part::Number(u32::from(image)),
-            Part::Text("."),
-            Part::Number(version),
-            Part::Text(if again { ".again." } else { "" }),
-            if again {
-                Part::Number(times)
-            } else {
-                Part::Text("")
-            },
-        ];
-        self.moment_rows(&parts, at)
+        let begin = Part::Text("whole.");
+        let image = Part::Number(u32::from(image));
+        let version = Part::Number(version);
+        if 1 < times {
+            let (again, times) = (Part::Text(".again."), Part::Number(times));
+            self.moment_rows(&[begin, image, Part::Text("."), version, again, times], at)
+        } else {
+            self.moment_rows(&[begin, image, Part::Text("."), version], at)
+        }
     }
 
     fn moment_rows(&mut self, parts: &[Part<'_>], at: Moment) -> Result<(), AllocError>
-        ensures { OnOk result (Begins (table_of_rows self.old) (table_of_rows self.new)) }
+        ensures { OnOk result (table_of_rows self.new ≡ table_of_rows self.old ++ rows_at (key_of parts.now []) at) }
     {
         self.push_ended(parts, ".event", at.event, false)?;
-        self.push_ended(parts, ".ms", at.ms, false)
+        self.push_ended(parts, ".ms", at.ms, false)?;
+        Ok(())
     }
 
     /// The value of a key, if there is a row of it.

@@ -1,1 +1,3 @@
+mod FrameLemmas
+mod KindLemmas
 mod RunLemmas

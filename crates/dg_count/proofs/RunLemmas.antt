@@ -1,5 +1,5 @@
 -- Counts of a whole run: declarations are not events, and a run has at most `most_events` events.
-use Rattle.std.proofs.Common.{◌≡◌, ℕ, ◌+◌, ◌%◌, ◌^◌, ◌<◌, ◌≤◌, Bool, true, false, cond, List, [], ◌∷◌, ◌++◌, get_or, inl, inr, Result, Ok, Err, zero, suc, map, filter, count_by, length, subst, refl, sym, ap, ◌∙◌, arith}
+use Rattle.std.proofs.Common.{◌≡◌, ℕ, ◌+◌, ◌%◌, ◌^◌, ◌<◌, ◌≤◌, Bool, true, false, cond, List, [], ◌∷◌, ◌++◌, get_or, inl, inr, Result, Ok, Err, zero, suc, map, filter, count_by, length, refl, sym, ap, ◌∙◌, arith}
 use Rattle.std.specs.Prelude.{is_some, Option, Some, None}
 use Rattle.std.proofs.lemmas.Nat.{mod-mul-add}
 use Rattle.std.proofs.lemmas.Bool.{both_ways, cases_lt}
@@ -26,6 +26,9 @@ use Rattle.dg_events.specs.declared.uptime.Uptimes.{Uptimes}
 use Rattle.dg_count.specs.Runs.{CountsEvent, IsSeenBy, HasSeen, CountedRun, CountedReplay}
 use Rattle.dg_events.specs.declared.event_counts.EventCounts.{EventCounts}
 use Rattle.dg_events.specs.declared.event_counter.EventCounter.{EventCounter}
+use Rattle.dg_events.specs.declared.frame_counter.FrameCounter.{FrameCounter}
+use Rattle.dg_count.specs.Shown.{IsShown, CountsFrames}
+use Rattle.dg_world.specs.declared.world.World.{World as CodeWorld}
 use Rattle.dg_count.specs.declared.counter.Counter.{Counter}
 use Rattle.dg_nor.specs.Device.{Device}
 use Rattle.dg_object.specs.Object.{Row}
@@ -184,24 +187,27 @@ world_before {p} {events = events} count led is placed few = record {
 }
 
 -- the boards of this many motes are used from now on
-pub seen_placed : {counts : EventCounter} {times : Uptimes} {placed motes : ℕ} {used : Option ℕ} {boards : List Device} (stores : List Store)
-    → IsPlaced motes used boards stores → IsSeenBy counts times placed [] [] → IsSeenBy counts times motes stores []
+pub seen_placed : {counts : EventCounter} {times : Uptimes} {frames : FrameCounter} {placed motes : ℕ} {used : Option ℕ} {boards : List Device} (stores : List Store)
+    → IsPlaced motes used boards stores → IsSeenBy counts times frames placed [] [] → IsSeenBy counts times frames motes stores []
 seen_placed stores is seen = record {
   counted = seen.counted;
   timed = seen.timed;
+  framed = seen.framed;
   motes = sym is.stand.count;
   few = omega (arith, is.stand.count, is.few);
 }
 
 -- one more event was counted
-pub seen_event : {before after : EventCounter} {times later : Uptimes} {placed still : ℕ} {e : Event} {lines : List Report} (stores : List Store) (events : List Played) (p : Played)
+pub seen_event : {before after : EventCounter} {times later : Uptimes} {frames more : FrameCounter} {world : CodeWorld} {placed still : ℕ} {e : Event} {lines : List Report} (stores : List Store) (events : List Played) (p : Played)
     → CountsEvent before after e lines → still ≡ placed
     → ((past : List Played) (q : Played) → IsEventPlayed e lines q → IsBefore placed past q.before → HasTimed times past → HasTimed later (past ++ q ∷ []))
-    → IsEventPlayed e lines p → IsBefore placed events p.before → IsSeenBy before times placed stores events
-    → IsSeenBy after later still stores (events ++ p ∷ [])
-seen_event stores events p counts same clock is was seen = record {
+    → CountsFrames frames more world e lines → IsShown world e lines events p
+    → IsEventPlayed e lines p → IsBefore placed events p.before → IsSeenBy before times frames placed stores events
+    → IsSeenBy after later more still stores (events ++ p ∷ [])
+seen_event stores events p counts same clock sent shown is was seen = record {
   counted = counts events p is seen.counted;
   timed = clock events p is was seen.timed;
+  framed = sent events p shown seen.framed;
   motes = same ∙ seen.motes;
   few = seen.few;
 }
@@ -212,6 +218,7 @@ pub replay_seen : {table : List Row} {script : Script} (c : Counter) (came : Pro
 replay_seen c came most seen = record {
   events = run_counted c.events came.played most seen.counted;
   times = seen.timed;
+  frames = seen.framed;
   motes = seen.motes;
   few = omega (arith, seen.motes, seen.few);
 }

@@ -15,7 +15,9 @@ use Rattle.dg_events.specs.Told.{Happened}
 use Rattle.dg_events.specs.Uptimes.{IsBefore, HasTimed}
 use Rattle.dg_events.specs.Counts.{count_at, count_all}
 use Rattle.dg_events.specs.Counters.{as_u64, told_count, HasCounted}
+use Rattle.dg_events.specs.FrameCounters.{HasFrames}
 use Rattle.dg_events.specs.declared.event_counter.EventCounter.{EventCounter}
+use Rattle.dg_events.specs.declared.frame_counter.FrameCounter.{FrameCounter}
 use Rattle.dg_events.specs.declared.uptime.Uptimes.{Uptimes}
 use Rattle.dg_count.specs.declared.counter.Counter.{Counter}
 
@@ -30,17 +32,18 @@ TimesEvent before after e lines =
     (past : List Played) (p : Played) → IsEventPlayed e lines p → IsBefore before.placed past p.before
     → HasTimed before.times past → HasTimed after.times (past ++ p ∷ [])
 
--- These events were counted and timed, at this many motes, whose chips began with these stores.
-pub record IsSeenBy (counts : EventCounter) (times : Uptimes) (placed : ℕ) (stores : List Store)
+-- These events were counted and timed, and their frames counted, at this many motes, whose chips began with these stores.
+pub record IsSeenBy (counts : EventCounter) (times : Uptimes) (frames : FrameCounter) (placed : ℕ) (stores : List Store)
     (events : List Played) : Type 0 where
   pub counted : HasCounted counts events
   pub timed : HasTimed times events
+  pub framed : HasFrames frames events
   pub motes : placed ≡ length stores
   pub few : length stores ≤ most_motes
 
 -- the counter has counted these events, at motes whose chips began with these stores
 abbrev pub HasSeen : Counter → (stores : List Store) → (events : List Played) → Type 0
-HasSeen c stores events = IsSeenBy c.events c.times c.placed stores events
+HasSeen c stores events = IsSeenBy c.events c.times c.frames c.placed stores events
 
 -- Each event that was played was counted once, and no count wrapped.
 pub record CountedRun (c : EventCounter) (played : List Played) : Type 0 where
@@ -53,5 +56,6 @@ pub record CountedRun (c : EventCounter) (played : List Played) : Type 0 where
 pub record CountedReplay {table : List Row} {script : Script} (c : Counter) (came : Progress table script) : Type 0 where
   pub events : CountedRun c.events came.played
   pub times : HasTimed c.times (events_played came.played)
+  pub frames : HasFrames c.frames (events_played came.played)
   pub motes : c.placed ≡ length (stores_in (beginning_of came.ground came.done).world)
   pub few : c.placed ≤ most_motes

@@ -11,7 +11,7 @@ use crate::counter::Counter;
 use dg_base::{Sink, Source, Status};
 use dg_meter::Metered;
 use dg_nor::Nor;
-use dg_replay::replay_watched;
+use dg_replay::replay;
 use std::alloc::Global;
 
 /// Replays a script as `replay` does, and counts the events that are played: how many at each mote are of each kind, are
@@ -38,5 +38,5 @@ pub fn replay_counted<S: Source, K: Sink, N: Nor>(
         (around (S.left input.new) (S.faults input.new) (K.written out.new) (K.faults out.new)
         (map (metered_device N.device) boards.new.items))) × CountedReplay counter.new x.came }
 {
-    replay_watched(alloc, input, out, boards, counter)
+    replay(alloc, input, out, boards, counter)
 }

@@ -1,6 +1,6 @@
 //! What is counted of a replay besides its events.
 
-use crate::frames::Frames;
+use crate::frames::FrameIndex;
 use crate::moments::Moments;
 use crate::mote::MoteCost;
 use crate::place::EventPlace;
@@ -30,7 +30,8 @@ pub struct Costs {
     /// What each board kept before the replay, if it is a volume.
     pub given: Vec<Option<Given>>,
     pub motes: Vec<MoteCost>,
-    pub frames: Frames,
+    /// The frames that were sent, by their bytes.
+    pub index: FrameIndex,
     /// The operations of each mote's chip up to the last event.
     pub operations: [u64; MOST_MOTES as usize],
     pub moments: Moments,
@@ -55,7 +56,7 @@ impl Costs {
             alloc,
             given,
             motes: Vec::new(alloc),
-            frames: Frames::new(alloc),
+            index: FrameIndex::new(alloc),
             operations: [0; MOST_MOTES as usize],
             moments: Moments::new(alloc),
             stamps: Vec::new(alloc),

@@ -1,12 +1,12 @@
 //! What is counted of a replay.
-ghost use Rattle.std.specs.Prelude.{◌≡◌, [], IfNone};
+ghost use Rattle.std.specs.Prelude.{◌≡◌, false, [], IfNone};
 ghost use Rattle.dg_count.specs.Runs.{HasSeen};
 ghost use Rattle.dg_count.specs.Ended.{counts_at};
 
 use crate::costs::{Costs, Given};
 use crate::place::EventPlace;
 use dg_cost_text::Moment;
-use dg_events::{EventCounter, EventCounts, Uptimes, add_one};
+use dg_events::{EventCounter, EventCounts, FrameCounter, Uptimes, add_one};
 use std::alloc::Global;
 
 /// What a replay costs, counted while it is played.
@@ -18,6 +18,8 @@ pub struct Counter {
     pub placed: u8,
     /// The moment, and how long each mote was on.
     pub times: Uptimes,
+    /// The frames that motes sent and heard.
+    pub frames: FrameCounter,
     /// What they cost.
     pub costs: Costs,
 }
@@ -31,8 +33,16 @@ impl Counter {
             events: EventCounter::new(),
             placed: 0,
             times: Uptimes::new(),
+            frames: FrameCounter::new(alloc),
             costs: Costs::new(alloc, given, timed),
         }
+    }
+
+    /// Memory ran out: none of these counts is valid.
+    pub fn failed(&self) -> bool
+        ensures { result ≡ false → self.now.frames.lost ≡ false }
+    {
+        self.costs.failed || self.frames.lost
     }
 
     /// What was counted of the events at a mote, plus this event if it was there and found no image to start.

@@ -1,13 +1,13 @@
 //! Frames that are delivered to motes.
+ghost use Rattle.dg_events.specs.FrameCounters.{KeepsFrames};
 
 use crate::costs::Costs;
-use crate::kinds::{
-    CUT_ANSWER, REFUSED_ANSWER, SENT_KINDS, answer_kind, bytes_kind, fault_kind, frame_bytes,
-};
+use crate::frames::{PUT, TRACED, TRACED_PUT, USED};
+use crate::kinds::{CUT_ANSWER, REFUSED_ANSWER, answer_kind, bytes_kind, fault_kind, frame_bytes};
 use crate::mote::{FILL, MOTES, MoteCost};
 use crate::share::add_share;
 use crate::work::Work;
-use dg_events::{Told, add_one};
+use dg_events::{FrameCounter, HeardFrame, SENT_KINDS, Told, add_one, bit};
 use dg_mote::Heard;
 use dg_rules::Event;
 use dg_world::World;
@@ -36,36 +36,53 @@ impl MoteCost {
     }
 }
 
-impl Costs {
-    /// The number of the frame that an event brings to its mote, 0 if the frame comes from outside.
-    #[inline(always)]
-    fn frame_number(&self, event: &Event) -> usize {
-        match event {
-            Event::Hear { frame, .. } => *frame as usize,
-            Event::Last { from, .. } => self.frames.last_of(*from),
-            _ => 0,
-        }
+/// The frame with this number was put into a page, if a packet was.
+fn mark_put(frames: &mut FrameCounter, number: usize, work: Work)
+    ensures { KeepsFrames frames.old frames.new }
+{
+    if 0 < work.puts {
+        frames.mark(number, 0, PUT);
     }
+}
 
-    /// The frame with this number was delivered to a mote, which put it into a page if `puts` holds. Answers its kind.
+/// The bytes of this frame, if it was found, came to a mote from outside.
+fn mark_traced(frames: &mut FrameCounter, found: Option<usize>, mote: u8, work: Work)
+    ensures { KeepsFrames frames.old frames.new }
+{
+    let Some(number) = found else {
+        return;
+    };
+    let state = if 0 < work.puts {
+        TRACED | TRACED_PUT
+    } else {
+        TRACED
+    };
+    frames.mark(number, bit(mote), state);
+}
+
+/// The number of the frame that an event brings to its mote, 0 if the frame comes from outside.
+fn number_of(world: &World, event: &Event) -> usize {
+    match event {
+        Event::Hear { frame, .. } => *frame as usize,
+        Event::Last { from, .. } => world.last_frame(*from),
+        _ => 0,
+    }
+}
+
+impl Costs {
+    /// A frame was delivered to a mote.
     #[inline(always)]
-    pub fn heard_frame(&mut self, mote: u8, number: usize, puts: bool) -> usize {
-        if number == 0 || self.frames.sent.len() < number {
-            return SENT_KINDS;
-        }
-        let frame = &mut self.frames.sent[number - 1];
-        let fresh = frame.hear(mote, puts);
-        let by = usize::from(frame.by);
-        let kind = usize::from(frame.kind);
+    pub fn heard_frame(&mut self, mote: u8, heard: HeardFrame) {
+        let by = usize::from(heard.by);
+        let kind = usize::from(heard.kind);
         let index = usize::from(mote);
         if index < self.motes.len() && by < MOTES && kind < SENT_KINDS {
             let cost = &mut self.motes[index];
             cost.from[by][kind] = cost.from[by][kind].wrapping_add(1);
-            if fresh {
+            if heard.fresh {
                 cost.first[by] = cost.first[by].wrapping_add(1);
             }
         }
-        kind
     }
 
     /// A mote answered a frame of this kind.
@@ -87,26 +104,31 @@ impl Costs {
     #[inline(never)]
     fn heard_bytes(
         &mut self,
+        frames: &mut FrameCounter,
         world: &World,
         mote: u8,
         bytes: &[u8],
         heard: Option<Heard>,
         work: Work,
-    ) -> Result<(), AllocError> {
-        let found = self.frames.find(world, mote, bytes)?;
-        if let Some(number) = found {
-            self.frames.trace(number, mote);
-            if 0 < work.puts {
-                self.frames.trace_put(number);
-            }
-        }
+    ) -> Result<(), AllocError>
+        ensures { KeepsFrames frames.old frames.new }
+    {
+        let found = self.index.find(world, frames, mote, bytes)?;
+        mark_traced(frames, found, mote, work);
+        self.note_outside(mote, bytes, found.is_some(), heard);
+        self.fill_by(frames, mote, 0, work);
+        Ok(())
+    }
+
+    /// Counts bytes from outside that were delivered to a mote.
+    fn note_outside(&mut self, mote: u8, bytes: &[u8], found: bool, heard: Option<Heard>) {
         let index = usize::from(mote);
         if self.motes.len() <= index {
-            return Ok(());
+            return;
         }
         let cost = &mut self.motes[index];
         add_share(&mut cost.outside, bytes_kind(bytes), bytes.len());
-        if found.is_some() {
+        if found {
             cost.traced = cost.traced.and(bytes.len());
         }
         if let Some(Heard::Refused(fault)) = heard {
@@ -117,19 +139,20 @@ impl Costs {
             None => CUT_ANSWER,
         };
         add_one(&mut cost.answers, answer);
-        self.fill_by(mote, 0, work);
-        Ok(())
     }
 
-    /// A mote heard the frame with this number. Nothing is reported of it, and the chip is unchanged.
+    /// A mote heard a frame, and gave this answer.
     #[inline(always)]
-    pub fn note_quiet(&mut self, mote: u8, number: usize, heard: Heard) {
-        let kind = self.heard_frame(mote, number, false);
-        self.answered(mote, kind, heard);
+    pub fn note_frame(&mut self, mote: u8, heard: HeardFrame, answer: Heard) {
+        self.heard_frame(mote, heard);
+        self.answered(mote, usize::from(heard.kind), answer);
     }
 
     /// Counts the packet of this frame if it was put into a page, and the page if it became complete.
-    pub fn fill_by(&mut self, mote: u8, number: usize, work: Work) {
+    pub fn fill_by(&mut self, frames: &mut FrameCounter, mote: u8, number: usize, work: Work)
+        ensures { KeepsFrames frames.old frames.new }
+    {
+        mark_put(frames, number, work);
         let index = usize::from(mote);
         if self.motes.len() <= index {
             return;
@@ -138,7 +161,7 @@ impl Costs {
             self.motes[index].fill_with(number);
         }
         if 0 < work.sealed {
-            self.use_fill(index);
+            self.use_fill(frames, index);
         }
     }
 
@@ -146,43 +169,68 @@ impl Costs {
     #[inline(never)]
     pub fn note_heard(
         &mut self,
+        frames: &mut FrameCounter,
         world: &World,
         mote: u8,
         event: &Event,
+        heard: Option<HeardFrame>,
         told: Told,
         work: Work,
-    ) -> Result<(), AllocError> {
+    ) -> Result<(), AllocError>
+        ensures { KeepsFrames frames.old frames.new }
+    {
         match event {
             Event::Hear { .. } | Event::Last { .. } => {
-                let number = self.frame_number(event);
-                let kind = self.heard_frame(mote, number, 0 < work.puts);
-                if !told.off {
-                    self.answered(mote, kind, world.heard());
-                } else if usize::from(mote) < self.motes.len() {
-                    add_one(&mut self.motes[usize::from(mote)].answers, CUT_ANSWER);
-                }
-                self.fill_by(mote, number, work);
+                self.note_heard_frame(world, mote, heard, told);
+                self.fill_by(frames, mote, number_of(world, event), work);
                 Ok(())
             }
             Event::Frame { bytes, .. } => {
-                let heard = if told.off { None } else { Some(world.heard()) };
-                self.heard_bytes(world, mote, bytes.as_slice(), heard, work)
+                let answer = if told.off { None } else { Some(world.heard()) };
+                self.heard_bytes(frames, world, mote, bytes.as_slice(), answer, work)
             }
             _ => Ok(()),
         }
     }
 
+    /// A mote heard this frame, or its power was cut then.
+    fn note_heard_frame(&mut self, world: &World, mote: u8, heard: Option<HeardFrame>, told: Told) {
+        let Some(heard) = heard else {
+            return;
+        };
+        if !told.off {
+            self.note_frame(mote, heard, world.heard());
+            return;
+        }
+        self.heard_frame(mote, heard);
+        if usize::from(mote) < self.motes.len() {
+            add_one(&mut self.motes[usize::from(mote)].answers, CUT_ANSWER);
+        }
+    }
+
     /// The page that the mote at this index fills became complete.
     #[inline(never)]
-    fn use_fill(&mut self, index: usize) {
+    fn use_fill(&mut self, frames: &mut FrameCounter, index: usize)
+        ensures { KeepsFrames frames.old frames.new }
+    {
         for place in 0..FILL {
-            if index < self.motes.len() && place < self.motes[index].filled {
-                let number = self.motes[index].fill[place];
-                self.frames.used(number);
-            }
+            self.use_packet(frames, index, place);
         }
         if index < self.motes.len() {
             self.motes[index].filled = 0;
+        }
+    }
+
+    /// The packet at this place of that page was put into a page that became complete.
+    fn use_packet(&self, frames: &mut FrameCounter, index: usize, place: usize)
+        ensures { KeepsFrames frames.old frames.new }
+    {
+        if self.motes.len() <= index {
+            return;
+        }
+        let cost = &self.motes[index];
+        if place < FILL && place < cost.filled {
+            frames.mark(cost.fill[place], 0, USED);
         }
     }
 }

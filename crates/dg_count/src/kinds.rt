@@ -1,10 +1,12 @@
 //! The kinds of frames, faults and answers, with their names in keys.
+ghost use Rattle.std.specs.Prelude.{◌≡◌, ◌<◌, true, length};
+ghost use Rattle.dg_frame.specs.Grammar.{in_range};
+ghost use Rattle.dg_frame.specs.Spelling.{frame_of};
+ghost use Rattle.dg_events.specs.Frames.{frame_number, frame_size};
 
-use dg_frame::FrameFault;
+use dg_events::SENT_KINDS;
+use dg_frame::{FrameFault, Message, is_read_back};
 use dg_mote::Heard;
-
-/// How many kinds of frames motes send.
-pub const SENT_KINDS: usize = 4;
 
 /// The kinds of frames, and bytes that are none of them.
 pub const FRAMES: [&str; 5] = ["advert", "request", "packet", "wide", "else"];
@@ -14,12 +16,31 @@ pub const PACKET: usize = 2;
 
 /// The bytes of a frame of this kind.
 #[inline(always)]
-pub fn frame_bytes(kind: usize) -> usize {
+pub fn frame_bytes(kind: usize) -> usize
+    ensures { result ≡ frame_size kind }
+{
     match kind {
         0 => 38,
         1 => 19,
         2 => 35,
         _ => 62,
+    }
+}
+
+/// The number of a message's kind.
+#[inline(always)]
+pub fn kind_of(message: &Message) -> u8
+    requires range { in_range true message.now ≡ true }
+    ensures number { frame_number (frame_of message.now) ≡ result }
+    ensures size { length (frame_of message.now) ≡ frame_size result }
+    ensures few { result < 4 }
+{
+    is_read_back(message);
+    match message {
+        Message::Advert { .. } => 0,
+        Message::Request { .. } => 1,
+        Message::Packet { .. } => 2,
+        Message::Wide { .. } => 3,
     }
 }
 

@@ -1,7 +1,7 @@
 //! What is counted of a mote.
 
 use crate::frames::share_of;
-use crate::kinds::SENT_KINDS;
+use dg_events::SENT_KINDS;
 use dg_meter::{REGIONS, Share, Tally};
 
 /// How many motes there may be.
@@ -88,17 +88,6 @@ impl MoteCost {
             fill: [0; FILL],
             filled: 0,
         }
-    }
-
-    /// The frames of a kind that it heard.
-    pub fn heard(&self, kind: usize) -> Share {
-        let mut count: u64 = 0;
-        if kind < SENT_KINDS {
-            for by in 0..MOTES {
-                count = count.saturating_add(self.from[by][kind]);
-            }
-        }
-        share_of(kind, count)
     }
 
     /// The frames that it heard of a mote.

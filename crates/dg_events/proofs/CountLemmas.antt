@@ -24,7 +24,7 @@ use Rattle.dg_events.specs.declared.event_counts.EventCounts.{EventCounts}
 abbrev pub Is : Happened → Played → Type 0
 Is x p = happening p.item p.before ≡ Some x
 
-count_more : (m : ℕ) (test : Happened → Bool) (past : List Played) (x : Happened) (p : Played) → Is x p
+pub count_more : (m : ℕ) (test : Happened → Bool) (past : List Played) (x : Happened) (p : Played) → Is x p
     → count_at m test (past ++ p ∷ []) ≡ count_at m test past + cond (at m test x) 1 0
 count_more m test past x p is =
     sum_by_push (λ (q : Played). cond (passes (at m test) (happening q.item q.before)) 1 0) past p
@@ -33,7 +33,7 @@ count_more m test past x p is =
 at_here : (m : ℕ) (test : Happened → Bool) (x : Happened) → mote_of x.event ≡ m → at m test x ≡ test x
 at_here m test x here = ap (λ (b : Bool). b && test x) (eq-eqb (mote_of x.event) m here)
 
-at_other : (m : ℕ) (test : Happened → Bool) (x : Happened) → mote_of x.event ≢ m → at m test x ≡ false
+pub at_other : (m : ℕ) (test : Happened → Bool) (x : Happened) → mote_of x.event ≢ m → at m test x ≡ false
 at_other m test x other = ap (λ (b : Bool). b && test x) (ne_eqb (mote_of x.event) m other)
 
 -- multiples of the modulus fall away
@@ -44,13 +44,13 @@ mod_drop q w r some =
     ap (λ (n : ℕ). n % w) whole ∙ mod-mul-add (q + r / w) w (r % w) (mod_below r w some)
 
 -- one more, where a count wraps
-up_again : (n w : ℕ) → 0 < w → (n % w + 1) % w ≡ (n + 1) % w
+pub up_again : (n w : ℕ) → 0 < w → (n % w + 1) % w ≡ (n + 1) % w
 up_again n w some =
     let parts : n / w * w + n % w ≡ n = div-add-mod' n w in
     let whole : n + 1 ≡ n / w * w + (n % w + 1) = omega (arith, parts) in
     sym (ap (λ (k : ℕ). k % w) whole ∙ mod_drop (n / w) w (n % w + 1) some)
 
-same_again : (n w : ℕ) → n % w ≡ (n + 0) % w
+pub same_again : (n w : ℕ) → n % w ≡ (n + 0) % w
 same_again n w = ap (λ (k : ℕ). k % w) (omega arith)
 
 up_is : (b : Bool) (n : ℕ) → up_if b (as_u64 n) ≡ as_u64 (n + cond b 1 0)
@@ -82,12 +82,12 @@ all_more past x p n h is =
 
 -- ---- counts by number
 
-none_more : (m : ℕ) (tests : ℕ → Happened → Bool) (past : List Played) (x : Happened) (p : Played) (kinds : ℕ) (xs : List ℕ)
+pub none_more : (m : ℕ) (tests : ℕ → Happened → Bool) (past : List Played) (x : Happened) (p : Played) (kinds : ℕ) (xs : List ℕ)
     → Is x p → ((k : ℕ) → at m (tests k) x ≡ false) → AreCounts m tests past kinds xs → AreCounts m tests (past ++ p ∷ []) kinds xs
 none_more m tests past x p kinds xs h other is =
     record { long = is.long; each = λ k lt. no_more m (tests k) past x p (slice_index xs k) h (other k) (is.each k lt) }
 
-some_more : (m : ℕ) (tests : ℕ → Happened → Bool) (past : List Played) (x : Happened) (p : Played) (kinds i : ℕ) (xs : List ℕ)
+pub some_more : (m : ℕ) (tests : ℕ → Happened → Bool) (past : List Played) (x : Happened) (p : Played) (kinds i : ℕ) (xs : List ℕ)
     → Is x p → mote_of x.event ≡ m → ((k : ℕ) → tests k x ≡ (i == k)) → AreCounts m tests past kinds xs
     → AreCounts m tests (past ++ p ∷ []) kinds (up_at i xs)
 some_more m tests past x p kinds i xs h here which is = record { long = length-set xs i (up (slice_index xs i)) ∙ is.long; each = each }

@@ -1,4 +1,6 @@
 mod CountLemmas
+mod FrameLemmas
+mod FrameEvents
 mod ToldLemmas
 mod PowerLemmas
 mod UptimeLemmas

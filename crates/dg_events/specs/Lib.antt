@@ -3,4 +3,6 @@ pub mod Told
 pub mod Counts
 pub mod Counters
 pub mod Noted
+pub mod Frames
+pub mod FrameCounters
 pub mod Uptimes

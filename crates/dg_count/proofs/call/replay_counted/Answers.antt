@@ -3,5 +3,5 @@ use Rattle.dg_count.proofs.call.replay_counted.Goals as goal
 
 pub returns-clause-counted : goal.returns-clause-counted
 returns-clause-counted g c seen table =
-    let s = c.replay_watched.ensures.seen table seen in
-    (s.0, replay_seen c.replay_watched.new.watcher s.0.came s.0.limits.few_events s.1)
+    let s = c.replay.ensures.seen table seen in
+    (s.0, replay_seen c.replay.new.watcher s.0.came s.0.limits.few_events s.1)

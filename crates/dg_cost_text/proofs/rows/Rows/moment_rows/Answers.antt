@@ -1,6 +1,10 @@
-use Rattle.dg_cost_text.proofs.TableLemmas.{begins_more, begins_rows, then_on}
+use Rattle.std.specs.Prelude.{codes}
+use Rattle.std.specs.List.{flat_map}
+use Rattle.dg_cost_text.specs.Table.{part_text, table_of_rows}
+use Rattle.dg_cost_text.proofs.TableLemmas.{two_rows}
 use Rattle.dg_cost_text.proofs.rows.Rows.moment_rows.Goals as goal
 
 pub returns : goal.returns
 returns c =
-    then_on c.push_ended-2.result (λ e. begins_more (begins_rows _ c.in_ok-push_ended.ensures) (begins_rows _ e)) c.push_ended-2.ensures
+    two_rows (table_of_rows c.args.self.now) (flat_map part_text c.args.parts.now) (codes ".event") (codes ".ms") c.args.at.event c.args.at.ms c.in_ok-push_ended.ensures
+    c.in_ok-push_ended-2.ensures

@@ -1,0 +1,53 @@
+//! Counts the frames of motes, by what the world exposes of them.
+ghost use Rattle.std.specs.Prelude.{◌≡◌, true, false};
+ghost use Rattle.dg_rules.specs.Events.{mote_of};
+ghost use Rattle.dg_events.specs.Frames.{is_hearing};
+ghost use Rattle.dg_count.specs.Shown.{CountsFrames, IsNumberOf};
+
+use crate::kinds::kind_of;
+use dg_events::{FrameCounter, HeardFrame};
+use dg_rules::Event;
+use dg_script::Report;
+use dg_world::World;
+
+/// Counts the frame that an event at a mote sent, if it sent one: the world then has one more than were counted.
+#[inline(always)]
+pub fn count_sent(
+    frames: &mut FrameCounter,
+    world: &World,
+    event: &Event,
+    mote: u8,
+    reports: &[Report],
+)
+    requires none { is_hearing event.now ≡ false }
+    requires mote { mote ≡ mote_of event.now }
+    ensures { CountsFrames frames.old frames.new world.now event.now reports.now }
+{
+    let all = world.frames_sent();
+    if all <= frames.sent.len() {
+        frames.skip();
+        return;
+    }
+    match world.frame(all) {
+        Some(message) => frames.send(event, mote, kind_of(message)),
+        None => frames.skip(),
+    }
+}
+
+/// Counts the frame with this number, which an event brings to a mote, unless the event is refused.
+#[inline(always)]
+pub fn count_heard(
+    frames: &mut FrameCounter,
+    world: &World,
+    event: &Event,
+    mote: u8,
+    number: usize,
+    reports: &[Report],
+) -> Option<HeardFrame>
+    requires hears { is_hearing event.now ≡ true }
+    requires mote { mote ≡ mote_of event.now }
+    requires number { IsNumberOf world.now event.now number }
+    ensures { CountsFrames frames.old frames.new world.now event.now reports.now }
+{
+    frames.hear(event, mote, number, reports)
+}

@@ -1,0 +1,117 @@
+-- What a counter of frames has counted (the type `FrameCounter`), and what it is told of an event.
+use Rattle.std.specs.Prelude.{◌≡◌, ◌⊎◌, ℕ, ◌+◌, ◌*◌, ◌<◌, ◌≤◌, true, false, List, ◌∷◌, ◌++◌, [], length, slice_get}
+use Rattle.std.specs.Prelude.{slice_index, replicate}
+use Rattle.std.specs.Prelude.{Option, Some, None, option_map, map, slice_set, slice_index_or}
+use Rattle.dg_base.specs.declared.events.Event.{Event}
+use Rattle.dg_rules.specs.World.{Sent, frame_at}
+use Rattle.dg_rules.specs.Events.{mote_of}
+use Rattle.dg_rules.specs.Past.{brought}
+use Rattle.dg_rules.specs.Runs.{Played}
+use Rattle.dg_rules.specs.Sizes.{most_motes}
+use Rattle.dg_script.specs.declared.report.Report.{Report}
+use Rattle.dg_events.specs.Counts.{count_at}
+use Rattle.dg_events.specs.Counters.{as_u64, AreCounts}
+use Rattle.dg_events.specs.Frames.{frame_number, frame_size, frames_sent, sent_at, sent_bytes_at, is_hearing, is_heard, bytes_at}
+use Rattle.dg_events.specs.Noted.{IsEventPlayed, up_at}
+use Rattle.dg_events.specs.declared.sent_frame.HeardFrame.{HeardFrame}
+use Rattle.dg_events.specs.declared.sent_frame.SentFrame.{SentFrame}
+use Rattle.dg_events.specs.declared.frame_counter.FrameCounts.{FrameCounts}
+use Rattle.dg_events.specs.declared.frame_counter.FrameCounter.{FrameCounter}
+
+-- Each count is the number of the frames of that kind that the mote sent.
+pub record AreSent (mote : ℕ) (played : List Played) (counts : List ℕ) : Type 0 where
+  pub long : length counts ≡ 4
+  pub each : (k : ℕ) → k < 4 → slice_index counts k ≡ as_u64 (sent_at mote k played)
+
+-- The counts of a mote are those of what was played.
+pub record FramesAre (mote : ℕ) (played : List Played) (c : FrameCounts) : Type 0 where
+  pub sent : AreSent mote played c.sent
+  pub heard : AreCounts mote is_heard played 4 c.heard
+
+-- the counts of each mote are those of what was played
+abbrev pub AllFrames : List FrameCounts → List Played → Type 0
+AllFrames motes played = (m : ℕ) (c : FrameCounts) → slice_get motes m ≡ Some c → FramesAre m played c
+
+-- Each frame that was sent or heard has the size of its kind.
+pub record AreSized (played : List Played) : Type 0 where
+  pub sent : (m k : ℕ) → sent_bytes_at m k played ≡ sent_at m k played * frame_size k
+  pub heard : (m k : ℕ) → bytes_at m (is_heard k) played ≡ count_at m (is_heard k) played * frame_size k
+
+-- The log has the frames that were sent, by their kinds, and the counts are those of what was played.
+pub record AreFrames (log : List SentFrame) (motes : List FrameCounts) (played : List Played) : Type 0 where
+  pub kinds : map (λ (f : SentFrame). f.kind) log ≡ map (λ (s : Sent). frame_number s.bytes) (frames_sent played)
+  pub few : length (frames_sent played) ≤ length played
+  pub sizes : (n : ℕ) (s : Sent) → slice_get (frames_sent played) n ≡ Some s
+      → length s.bytes ≡ frame_size (frame_number s.bytes)
+  pub many : length motes ≡ most_motes
+  pub each : AllFrames motes played
+  pub sized : AreSized played
+
+-- the counter has counted the frames that were sent, and those that were heard at each mote, unless memory ran out
+abbrev pub HasFrames : FrameCounter → List Played → Type 0
+HasFrames c played = c.lost ≡ false → AreFrames c.sent.items c.motes played
+
+-- what was counted stays counted
+abbrev pub KeepsFrames : (before after : FrameCounter) → Type 0
+KeepsFrames before after = (played : List Played) → HasFrames before played → HasFrames after played
+
+-- no frame was counted
+abbrev pub no_frames : FrameCounts
+no_frames = record { sent = replicate 4 0; heard = replicate 4 0 }
+
+-- one more frame of a kind that was sent, or heard
+abbrev pub with_sent : (kind : ℕ) → FrameCounts → FrameCounts
+with_sent kind c = record c { sent = up_at kind c.sent }
+
+abbrev pub with_heard : (kind : ℕ) → FrameCounts → FrameCounts
+with_heard kind c = record c { heard = up_at kind c.heard }
+
+-- the same among all motes
+abbrev pub with_sent_at : (mote kind : ℕ) → List FrameCounts → List FrameCounts
+with_sent_at mote kind motes = slice_set motes mote (with_sent kind (slice_index_or motes mote no_frames))
+
+abbrev pub with_heard_at : (mote kind : ℕ) → List FrameCounts → List FrameCounts
+with_heard_at mote kind motes = slice_set motes mote (with_heard kind (slice_index_or motes mote no_frames))
+
+-- ---- the log
+
+-- each frame keeps its kind
+abbrev pub KeepsKinds : (before after : List SentFrame) → Type 0
+KeepsKinds before after = map (λ (f : SentFrame). f.kind) after ≡ map (λ (f : SentFrame). f.kind) before
+
+-- There is a frame with this number, which has this kind, and each frame keeps its kind.
+pub record HasNumbered (number : ℕ) (before after : List SentFrame) (kind : ℕ) : Type 0 where
+  pub index : ℕ
+  pub number_is : number ≡ index + 1
+  pub there : slice_get (map (λ (f : SentFrame). f.kind) before) index ≡ Some kind
+  pub kept : KeepsKinds before after
+
+-- what is known of the frame with this number, if there is one
+abbrev pub HearsIn : (number : ℕ) → (before after : List SentFrame) → Option HeardFrame → Type 0
+HearsIn number before after None = ((number ≡ 0) ⊎ (length before < number)) × (after ≡ before)
+HearsIn number before after (Some heard) = HasNumbered number before after heard.kind
+
+-- ---- what is told of an event
+
+-- An event sent no frame, and brought none of a mote.
+pub record IsFrameless (e : Event) (lines : List Report) (past : List Played) (p : Played) : Type 0 where
+  pub played : IsEventPlayed e lines p
+  pub sent : p.after.sent ≡ frames_sent past
+  pub none : (is_hearing e ≡ false) ⊎ (brought p.before e ≡ None)
+
+-- An event at a mote sent a frame of this kind, and brought none of a mote.
+pub record IsSending (e : Event) (lines : List Report) (kind : ℕ) (past : List Played) (p : Played) : Type 0 where
+  pub played : IsEventPlayed e lines p
+  pub none : is_hearing e ≡ false
+  pub bytes : List ℕ
+  pub kind_is : frame_number bytes ≡ kind
+  pub size : length bytes ≡ frame_size kind
+  pub sent : p.after.sent ≡ frames_sent past ++ record { by = mote_of e; bytes = bytes } ∷ []
+
+-- An event brought its mote the frame with this number, if there is one, and sent none.
+pub record IsBringing (e : Event) (lines : List Report) (number : ℕ) (past : List Played) (p : Played) : Type 0 where
+  pub played : IsEventPlayed e lines p
+  pub hears : is_hearing e ≡ true
+  pub brings : brought p.before e ≡ option_map (λ (s : Sent). s.bytes) (frame_at p.before number)
+  pub before : p.before.sent ≡ frames_sent past
+  pub sent : p.after.sent ≡ frames_sent past

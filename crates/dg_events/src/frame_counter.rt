@@ -1,0 +1,221 @@
+//! What is counted of the frames of motes.
+ghost use Rattle.std.specs.Prelude.{◌≡◌, ◌∷◌, ◌++◌, false, [], List, slice_index_or, is_some};
+ghost use Rattle.dg_base.specs.declared.events.Event.{Event};
+ghost use Rattle.dg_rules.specs.Events.{mote_of};
+ghost use Rattle.dg_rules.specs.Runs.{Played};
+ghost use Rattle.dg_script.specs.declared.report.Report.{Report};
+ghost use Rattle.dg_events.specs.Told.{told_by};
+ghost use Rattle.dg_events.specs.FrameCounters.{HasFrames, KeepsFrames, IsFrameless, IsSending, IsBringing, no_frames};
+ghost use Rattle.dg_events.specs.FrameCounters.{with_heard_at, with_sent_at, HearsIn, KeepsKinds};
+
+use crate::counting::add_one;
+use crate::sent_frame::{HeardFrame, SentFrame};
+use crate::told::told_by;
+use dg_base::MOST_MOTES;
+use dg_rules::Event;
+use dg_script::Report;
+use std::alloc::Global;
+
+/// How many kinds of frames motes send.
+pub const SENT_KINDS: usize = 4;
+
+/// How many frames a mote sent and heard, by kind: adverts, requests, packets and wide adverts.
+#[derive(Clone, Copy)]
+pub struct FrameCounts {
+    pub sent: [u64; SENT_KINDS],
+    pub heard: [u64; SENT_KINDS],
+}
+
+impl FrameCounts {
+    /// No frame was sent or heard.
+    pub fn none() -> FrameCounts
+        ensures { result ≡ no_frames }
+    {
+        FrameCounts {
+            sent: [0; SENT_KINDS],
+            heard: [0; SENT_KINDS],
+        }
+    }
+}
+
+/// What is counted of the frames of motes.
+#[derive(Drop)]
+pub struct FrameCounter {
+    /// The frames that were sent, the first one first. The first has number 1.
+    pub sent: Vec<SentFrame>,
+    /// The counts of each mote that a script may have, by its number.
+    pub motes: [FrameCounts; MOST_MOTES as usize],
+    /// Memory ran out: no count is valid.
+    pub lost: bool,
+}
+
+/// Whether these lines report that an event was refused. Of most events nothing is reported.
+#[inline(always)]
+fn is_refused(reports: &[Report]) -> bool
+    ensures { result ≡ is_some (told_by reports.now).refused }
+{
+    !reports.is_empty() && is_told_refused(reports)
+}
+
+/// The same of some lines.
+#[inline(never)]
+fn is_told_refused(reports: &[Report]) -> bool
+    ensures { result ≡ is_some (told_by reports.now).refused }
+{
+    told_by(reports).refused.is_some()
+}
+
+/// A mote hears the frame with this number. Answers what is known of it, None if there is no such frame.
+#[inline(always)]
+fn hear_in(sent: &mut [SentFrame], number: usize, mote: u8) -> Option<HeardFrame>
+    ensures { HearsIn number sent.old sent.new result }
+{
+    if number == 0 || sent.len() < number {
+        return None;
+    }
+    Some(sent[number - 1].hear(mote))
+}
+
+/// Adds to the outcome of the frame with this number, if there is one.
+#[inline(always)]
+fn mark_in(sent: &mut [SentFrame], number: usize, traced: u16, state: u8)
+    ensures { KeepsKinds sent.old sent.new }
+{
+    if number == 0 || sent.len() < number {
+        return;
+    }
+    sent[number - 1].mark(traced, state);
+}
+
+/// A mote heard one more frame of this kind.
+#[inline(always)]
+fn add_heard(motes: &mut [FrameCounts], mote: u8, kind: u8)
+    ensures { motes.new ≡ with_heard_at mote kind motes.old }
+{
+    let mote = usize::from(mote);
+    if mote < motes.len() {
+        add_one(&mut motes[mote].heard, usize::from(kind));
+    }
+}
+
+/// A mote sent one more frame of this kind.
+#[inline(always)]
+fn add_sent(motes: &mut [FrameCounts], mote: u8, kind: u8)
+    ensures { motes.new ≡ with_sent_at mote kind motes.old }
+{
+    let mote = usize::from(mote);
+    if mote < motes.len() {
+        add_one(&mut motes[mote].sent, usize::from(kind));
+    }
+}
+
+/// Reserves capacity for one more frame.
+#[inline(never)]
+fn grow(sent: &mut Vec<SentFrame>)
+    ensures { sent.new.items ≡ sent.old.items }
+{
+    match sent.reserve(1) {
+        Ok(()) => {}
+        Err(_) => {}
+    }
+}
+
+impl FrameCounter {
+    /// Nothing was played.
+    pub fn new(alloc: Global) -> FrameCounter
+        ensures { HasFrames result [] }
+    {
+        FrameCounter {
+            sent: Vec::new(alloc),
+            motes: [FrameCounts::none(); MOST_MOTES as usize],
+            lost: false,
+        }
+    }
+
+    /// What was counted of the frames of a mote.
+    pub fn at(&self, mote: usize) -> FrameCounts
+        ensures { result ≡ slice_index_or self.now.motes mote no_frames }
+    {
+        if mote < self.motes.len() {
+            return self.motes[mote];
+        }
+        FrameCounts::none()
+    }
+
+    /// The frame with this number.
+    pub fn get(&self, number: usize) -> Option<SentFrame> {
+        if number == 0 || self.sent.len() < number {
+            return None;
+        }
+        Some(self.sent[number - 1])
+    }
+
+    /// An event that neither sent a frame nor brought one counts for nothing here.
+    #[inline(always)]
+    pub fn skip(&self)
+        ensures { (e : Event) (lines : List Report) (past : List Played) (p : Played) → IsFrameless e lines past p
+            → HasFrames self.now past → HasFrames self.now (past ++ p ∷ []) }
+    {}
+
+    /// Counts a frame of this kind that an event at this mote sent, which gets the next number.
+    #[inline(always)]
+    pub fn send(&mut self, event: &Event, mote: u8, kind: u8)
+        requires mote { mote ≡ mote_of event.now }
+        ensures frames { (lines : List Report) (past : List Played) (p : Played) → IsSending event.now lines kind past p
+            → HasFrames self.old past → HasFrames self.new (past ++ p ∷ []) }
+        ensures lost { self.new.lost ≡ false → self.old.lost ≡ false }
+    {
+        self.make_room();
+        match self.sent.push(SentFrame::new(mote, kind)) {
+            Ok(()) => add_sent(&mut self.motes, mote, kind),
+            Err(_) => self.lost = true,
+        }
+    }
+
+    /// Makes room for one more frame, unless memory runs out.
+    #[inline(always)]
+    fn make_room(&mut self)
+        ensures sent { self.new.sent.items ≡ self.old.sent.items }
+        ensures motes { self.new.motes ≡ self.old.motes }
+        ensures lost { self.new.lost ≡ self.old.lost }
+    {
+        if self.sent.capacity() <= self.sent.len() {
+            grow(&mut self.sent);
+        }
+    }
+
+    /// Counts the frame with this number, which an event brought to this mote, unless these lines report that the event was
+    /// refused. Answers what is known of the frame.
+    #[inline(always)]
+    pub fn hear(
+        &mut self,
+        event: &Event,
+        mote: u8,
+        number: usize,
+        reports: &[Report],
+    ) -> Option<HeardFrame>
+        requires mote { mote ≡ mote_of event.now }
+        ensures { (past : List Played) (p : Played) → IsBringing event.now reports.now number past p
+            → HasFrames self.old past → HasFrames self.new (past ++ p ∷ []) }
+    {
+        if is_refused(reports) {
+            return None;
+        }
+        match hear_in(&mut self.sent, number, mote) {
+            None => None,
+            Some(heard) => {
+                add_heard(&mut self.motes, mote, heard.kind);
+                Some(heard)
+            }
+        }
+    }
+
+    /// Adds to the outcome of the frame with this number: the motes to which its bytes came from outside, by a bit for each, and
+    /// a set of outcomes.
+    #[inline(always)]
+    pub fn mark(&mut self, number: usize, traced: u16, state: u8)
+        ensures { KeepsFrames self.old self.new }
+    {
+        mark_in(&mut self.sent, number, traced, state);
+    }
+}
