@@ -19,12 +19,14 @@ use Rattle.dg_end.specs.Lines.{Outcome}
 use Rattle.dg_end.specs.Writes.{WritesLast, WritesAnswer}
 use Rattle.dg_end.proofs.AnswerLemmas.{answered_done}
 use Rattle.dg_end.specs.declared.ends.End.TheVariants as ends
-use Rattle.dg_tool.specs.Endings.{VerbEnding, Before, Reading, Acting, outcome_of, verb_by_boards}
-use Rattle.dg_tool.specs.Done.{NeedsBoard, EndsAs}
+use Rattle.dg_tool.specs.Endings.{VerbEnding, Before, Reading, Acting, outcome_of}
+use Rattle.dg_tool.specs.inner.OnChip.{verb_by_boards}
+use Rattle.dg_tool.specs.Done.{VerbRule, NeedsBoard, EndsAs, AtFirst, IsBoardStopped, OutcomeShows, OnBoards}
 use Rattle.dg_tool.specs.inner.OneBoard.{OnStore}
 use Rattle.dg_tool.proofs.BoardLemmas.{by_some, written_back}
 use Rattle.dg_tool.proofs.OutcomeLemmas.{made_store, memory_store, refused_store, stopped_store, halts_stopped}
-use Rattle.dg_chain_tool.specs.Verbs.{chain_text, answered, check_by, check_on}
+use Rattle.dg_chain_tool.specs.Verbs.{chain_text, answered, check_by}
+use Rattle.dg_chain_tool.specs.inner.Words.{check_on}
 use Rattle.dg_chain_tool.specs.Done.{TellsLength}
 
 -- ---- what is found of the data pages
@@ -142,6 +144,11 @@ told_by status (Err (ends.BadHex fault)) ending n a b same looked acted halted i
 told_by status (Err (ends.BadLine number fault)) ending n a b same looked acted halted is h read w = own_rule status (Err (ends.BadLine number fault)) n a b (h.0 ∙ ap outcome_of is) w
 told_by status (Err (ends.BadProfile fault)) ending n a b same looked acted halted is h read w = own_rule status (Err (ends.BadProfile fault)) n a b (h.0 ∙ ap outcome_of is) w
 told_by status (Err (ends.Refused cause)) ending n a b same looked acted halted is h read w = own_rule status (Err (ends.Refused cause)) n a b (h.0 ∙ ap outcome_of is) w
+
+-- a verb without an input never ends by a read that failed
+pub never_read : (outcome : Outcome) (rule : VerbRule) (old new : List Device) → OnBoards outcome rule ⊥ old new → outcome ≡ Err ends.ReadFault → ⊥
+never_read outcome rule old new done e =
+    (subst (λ (o : Outcome). OutcomeShows o ((k : Option Store) × rule.chips k) (AtFirst IsBoardStopped old new) ⊥ (new ≡ old)) e done.shows).0
 
 -- the outcome of a check that ends well is its answer
 pub done_rule : (status : Status) (outcome : Outcome) (ending : VerbEnding) (a b : OutputState) (same looked acted halted : Type 0) → status ≡ statuses.Done → WritesAnswer status outcome a b → EndsAs outcome ending same looked acted halted → (text : List ℕ) × (Ok text ≡ outcome_of ending)

@@ -50,8 +50,10 @@ use Rattle.dg_tool.specs.declared.input.ImageFault.{ImageFault}
 use Rattle.dg_tool.proofs.BoardLemmas.{some_mapped}
 use Rattle.dg_tool.proofs.InputLemmas.{fed, fed_none}
 use Rattle.dg_chain_tool.specs.Done.{receive_rule}
-use Rattle.dg_chain_tool.specs.Receiving.{expected, compared_from, first_foreign, done_in, foreign_in, keep_trail, with_foreign, trail_by, receive_trail}
-use Rattle.dg_chain_tool.specs.Verbs.{receive_ending, receive_to, receive_into}
+use Rattle.dg_chain_tool.specs.Receiving.{expected, done_in, foreign_in, keep_trail, with_foreign, trail_by, receive_trail}
+use Rattle.dg_chain_tool.specs.inner.Words.{compared_from, first_foreign}
+use Rattle.dg_chain_tool.specs.Verbs.{receive_ending}
+use Rattle.dg_chain_tool.specs.inner.Words.{receive_to, receive_into}
 use Rattle.dg_chain_tool.specs.inner.Filling.{fill_to, FillEnds}
 use Rattle.dg_chain_tool.proofs.FillLemmas.{break_above, to_first, to_works, to_more}
 
@@ -336,7 +338,7 @@ refused_at root s row a fault end e other same =
 -- ---- the image that the input spells
 
 pub fed_receive : {N T : Type 0} (f : N → Device) (items : List N) (root : List ℕ) (row : List ℕ → Row) (view : T → List ℕ) (image : T) (outcome : Outcome) (a b : InputState) (new : List Device) → 0 < length items → ImageRead view (Ok image) a b
-    → OnBoards outcome (trail_rule (map f items) (receive_into root (row (view image))) (λ s. receive_trail root s (row (view image)))) (Rose a.reads b.reads) (map f items) new → FedBoards outcome (receive_rule (map f items) root row) a b (map f items) new
+    → OnBoards outcome (trail_rule (map f items) (receive_to root (row (view image))) (λ s. receive_trail root s (row (view image)))) (Rose a.reads b.reads) (map f items) new → FedBoards outcome (receive_rule (map f items) root row) a b (map f items) new
 fed_receive f items root row view image outcome a b new some read did =
     fed (FirstAs (map f items)) (λ bytes chip. receive_into root (row bytes) chip) (λ bytes. CompletedOn (λ s. receive_trail root s (row bytes))) (λ bytes. VerbStopsOn (λ s. receive_trail root s (row bytes))) (λ bytes chip. receive_into_needs root (row bytes) chip) view image outcome a b (map f items) new (some_mapped f items some) read did
 

@@ -20,7 +20,8 @@ use Rattle.dg_tool.specs.declared.input.ImageFault.{ImageFault}
 use Rattle.dg_tool.specs.declared.input.ImageFault.TheVariants as image_fault
 use Rattle.dg_tool.proofs.OutcomeLemmas.{at_end}
 use Rattle.dg_tool.proofs.InputLemmas.{by_over, input_image, input_fault, part_read, whole_read, reads_none}
-use Rattle.dg_chain_tool.specs.Verbs.{wrap_by, wrapped_text}
+use Rattle.dg_chain_tool.specs.Verbs.{wrap_by}
+use Rattle.dg_chain_tool.specs.inner.Words.{wrapped_text}
 use Rattle.dg_chain_tool.specs.Done.{TextComes, FedText}
 
 none_test : (n : ℕ) → n ≡ 0 → (n == 0) ≡ true

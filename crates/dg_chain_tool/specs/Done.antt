@@ -6,16 +6,17 @@ use Rattle.dg_base.specs.declared.answers.Status.{Status}
 use Rattle.dg_base.specs.declared.answers.Status.TheVariants.{Done, Memory, WriteFault, FlashFault}
 use Rattle.dg_nor.specs.Device.{Device}
 use Rattle.dg_object.specs.Object.{Row, row_of}
+use Rattle.dg_volume.specs.Changes.{inject_refusal}
 use Rattle.dg_outside.specs.Outside.{Outside, InputState, OutputState}
 use Rattle.dg_end.specs.Lines.{Outcome}
 use Rattle.dg_end.specs.Writes.{CommandEnds}
 use Rattle.dg_end.specs.declared.ends.End.TheVariants as ends
 use Rattle.dg_tool.specs.Endings.{VerbEnding, outcome_of, by_input, content_in}
-use Rattle.dg_tool.specs.Done.{VerbRule, InputRead, FirstDone, InputDone}
+use Rattle.dg_tool.specs.Done.{VerbRule, InputRead, InputDone}
 use Rattle.dg_tool.specs.Agreement.{HasNewRow, KeepsAgreement}
-use Rattle.dg_tool.specs.Rules.{trail_rule, reading_rule}
-use Rattle.dg_chain_tool.specs.Receiving.{receive_trail}
-use Rattle.dg_chain_tool.specs.Verbs.{wrap_by, check_on, receive_into, chain_text}
+use Rattle.dg_tool.specs.Rules.{trail_rule, image_rule}
+use Rattle.dg_chain_tool.specs.Receiving.{foreign_in, receive_trail}
+use Rattle.dg_chain_tool.specs.Verbs.{wrap_by, receive_ending, chain_text}
 
 -- a verb that uses no board ends by its rules; out of memory may be returned at any time
 abbrev pub TextComes : Outcome → VerbEnding → (read_failed : Type 0) → Type 0
@@ -32,14 +33,12 @@ pub record FedText (outcome : Outcome) (next : List ℕ → VerbEnding) (a b : I
 abbrev pub WrapDone : Status → Outside → Outside → Type 0
 WrapDone status a b = CommandEnds status (λ outcome. FedText outcome wrap_by a.input b.input × (b.boards ≡ a.boards)) a b
 
-abbrev pub CheckDone : (image : ℕ) → (root : List ℕ) → Status → Outside → Outside → Type 0
-CheckDone image root status a b = FirstDone status (reading_rule a.boards (check_on image root)) a b
-
 -- `row` is the image with its bytes
 abbrev pub receive_rule : List Device → (root : List ℕ) → (row : List ℕ → Row) → (input : List ℕ) → VerbRule
-receive_rule boards root row input =
-    trail_rule boards (λ chip. by_input input (λ bytes. receive_into root (row bytes) chip))
-    (λ s. receive_trail root s (row (content_in input)))
+receive_rule boards root row =
+    image_rule (λ bytes. trail_rule boards
+    (λ s. receive_ending (row bytes) (inject_refusal s (row bytes)) (foreign_in root s (row bytes)))
+    (λ s. receive_trail root s (row bytes)))
 
 -- The table has the row of the image that was received, unless that was refused as an injection is.
 pub record ReceiveDone (image version : ℕ) (name root : List ℕ) (status : Status) (a b : Outside) : Type 0 where

@@ -14,24 +14,15 @@ use Rattle.dg_chain.specs.Receiving.{fill_operations}
 abbrev pub expected : (root : List ℕ) → List (List ℕ) → ℕ → List ℕ
 expected root pages n = if n == 1 then root else field_of (slice_index_or pages (n - 1) [])
 
--- the first foreign page from page n on
-abbrev pub foreign_from : (root : List ℕ) → List (List ℕ) → ℕ → Option Break
-foreign_from root pages n = first_break (expected root pages n) n (drop n pages)
-
--- the first page that is compared where this many are complete: page 0 has no digest that is expected of it
-abbrev pub compared_from : ℕ → ℕ
-compared_from done = if done == 0 then 1 else done
-
--- the first foreign one of the pages that are filled, where this many are complete
-abbrev pub first_foreign : (root : List ℕ) → List (List ℕ) → (done : ℕ) → Option Break
-first_foreign root pages done = foreign_from root pages (compared_from done)
-
 -- the pages that are complete of this version
 abbrev pub done_in : Store → Row → ℕ
 done_in s row = if is_version (held s row.image) row.version then done_of (held s row.image) else 0
 
+-- the first foreign one of the pages that are filled: page 0 has no digest that is expected of it
 abbrev pub foreign_in : (root : List ℕ) → Store → Row → Option Break
-foreign_in root s row = first_foreign root (object row) (done_in s row)
+foreign_in root s row =
+    let done = done_in s row in let n = if done == 0 then 1 else done in
+    first_break (expected root (object row) n) n (drop n (object row))
 
 -- An image is kept with these pages: its slot is taken unless this version is kept,
 -- and then each of them that is missing is filled.

@@ -6,8 +6,6 @@ use Rattle.dg_base.specs.Hexadecimal.{hex_text}
 use Rattle.dg_ihex.specs.Written.{written_file}
 use Rattle.dg_object.specs.Object.{Row}
 use Rattle.dg_slot.specs.Kept.{Held}
-use Rattle.dg_volume.specs.Store.{Store, held}
-use Rattle.dg_volume.specs.Changes.{inject_refusal}
 use Rattle.dg_volume.specs.declared.volume.InjectFault.{InjectFault}
 use Rattle.dg_chain.specs.Chain.{root_of, joined_pages, most_payload}
 use Rattle.dg_chain.specs.Checking.{Answer, Fine, Broken, Misshapen, Break, answer_of}
@@ -15,21 +13,16 @@ use Rattle.dg_end.specs.declared.refusal.Refusal.TheVariants as refusals
 use Rattle.dg_end.specs.Conversions.{end_of_injection}
 use Rattle.dg_end.specs.declared.ends.End.TheVariants as ends
 use Rattle.dg_end.specs.Texts.{numbers, line}
-use Rattle.dg_tool.specs.Endings.{VerbEnding, Before, Reading, Acting, by_store}
+use Rattle.dg_tool.specs.Endings.{VerbEnding, Before, Reading, Acting}
 use Rattle.dg_tool.specs.Verbs.{have_text}
-use Rattle.dg_chain_tool.specs.Receiving.{foreign_in}
 
 -- ---- wrap
-
--- the root of a payload in lower case, and then the HEX file of its image
-abbrev pub wrapped_text : List ℕ → List ℕ
-wrapped_text x = line (codes "root " ++ hex_text (root_of x)) ++ written_file (joined_pages x)
 
 abbrev pub wrap_by : List ℕ → VerbEnding
 wrap_by x =
     if length x == 0 then Before (ends.Refused refusals.Empty)
     else if nat_lt most_payload (length x) then Before (ends.Refused (refusals.TooLarge (length x)))
-    else Acting (Ok (wrapped_text x))
+    else Acting (Ok (line (codes "root " ++ hex_text (root_of x)) ++ written_file (joined_pages x)))
 
 -- ---- check
 
@@ -48,18 +41,9 @@ check_by root (Some h) =
     if length h.complete == h.pages then answered (answer_of root (drop 1 h.complete))
     else Reading (ends.Refused (refusals.NotWhole (length h.complete) h.pages))
 
-abbrev pub check_on : (image : ℕ) → (root : List ℕ) → Option Store → VerbEnding
-check_on image root chip = by_store chip (λ s. check_by root (held s image))
-
 -- ---- receive
 
 abbrev pub receive_ending : Row → Option InjectFault → Option Break → VerbEnding
 receive_ending row (Some fault) found = Reading (end_of_injection (length row.bytes) fault)
 receive_ending row None None = Acting (Ok (have_text row))
 receive_ending row None (Some at) = Acting (Err (ends.Refused (refusals.Foreign at.page)))
-
-abbrev pub receive_to : (root : List ℕ) → Row → Store → VerbEnding
-receive_to root row s = receive_ending row (inject_refusal s row) (foreign_in root s row)
-
-abbrev pub receive_into : (root : List ℕ) → Row → Option Store → VerbEnding
-receive_into root row chip = by_store chip (receive_to root row)

@@ -10,7 +10,7 @@ ghost use Rattle.dg_end.specs.Lines.{text_outcome};
 ghost use Rattle.dg_tool.specs.Done.{OnBoards};
 ghost use Rattle.dg_tool.specs.inner.OneBoard.{OnStore};
 ghost use Rattle.dg_tool.specs.Rules.{reading_rule};
-ghost use Rattle.dg_chain_tool.specs.Verbs.{check_by, check_on};
+ghost use Rattle.dg_chain_tool.specs.Verbs.{check_by};
 
 use dg_chain::{DIGEST_SIZE, check};
 use dg_end::{End, Refusal, line_of};
@@ -72,7 +72,7 @@ pub(crate) fn check_first<N: Nor>(
 ) -> Result<Vec<u8>, End>
     requires known_image { image < images }
     ensures done { OnBoards (text_outcome (λ text. text.items) result)
-        (reading_rule (map N.device boards.old) (check_on image root.now)) ⊥ (map N.device boards.old)
+        (reading_rule (map N.device boards.old) (λ s. check_by root.now (held s image))) ⊥ (map N.device boards.old)
         (map N.device boards.new) }
     ensures unchanged { map (λ board. (N.device board).image) boards.new ≡ map (λ board. (N.device board).image) boards.old }
 {

@@ -8,7 +8,8 @@ ghost use Rattle.dg_volume.specs.Stands.{Mounted, IsMounted, is_lent};
 ghost use Rattle.dg_volume.specs.Changes.{FitAll};
 ghost use Rattle.dg_volume.specs.Filling.{new_row};
 ghost use Rattle.dg_chain.specs.Checking.{first_break};
-ghost use Rattle.dg_chain_tool.specs.Receiving.{expected, foreign_from, first_foreign};
+ghost use Rattle.dg_chain_tool.specs.Receiving.{expected};
+ghost use Rattle.dg_chain_tool.specs.inner.Words.{foreign_from, first_foreign};
 ghost use Rattle.dg_chain_tool.specs.inner.Filling.{FitsData, NextEnds, fill_to, FillEnds};
 
 use dg_chain::{ChainSealing, DIGEST_SIZE, PIECE_SIZE, receive_page};

@@ -18,7 +18,10 @@ ghost use Rattle.dg_outside.specs.Outside.{Outside, output_of, with_input, with_
 ghost use Rattle.dg_chain.specs.Chain.{IsPayload, chain, root_of};
 ghost use Rattle.dg_chain.specs.Checking.{Collision};
 ghost use Rattle.dg_tool.specs.Endings.{FirstAs};
-ghost use Rattle.dg_chain_tool.specs.Done.{WrapDone, CheckDone, ReceiveDone, TellsLength};
+ghost use Rattle.dg_tool.specs.Done.{FirstDone};
+ghost use Rattle.dg_tool.specs.Rules.{reading_rule};
+ghost use Rattle.dg_chain_tool.specs.Verbs.{check_by};
+ghost use Rattle.dg_chain_tool.specs.Done.{WrapDone, ReceiveDone, TellsLength};
 
 use crate::checking::check_first;
 use crate::receiving::receive_first;
@@ -51,7 +54,8 @@ pub fn check<K: Sink, N: Nor>(
     boards: &mut Vec<N>,
 ) -> Status
     requires image { image < images }
-    ensures does { (rest : Outside) → CheckDone image root.now result
+    ensures does { (rest : Outside) → FirstDone result
+        (reading_rule (map N.device boards.old.items) (λ s. check_by root.now (held s image)))
         (with_boards (map N.device boards.old.items) (with_output (K.Sink, out.old) rest))
         (with_boards (map N.device boards.new.items) (with_output (K.Sink, out.new) rest)) }
     // Whatever wrote the board's bytes, pages that pass for the root of a payload are its pages, or two different pages at one

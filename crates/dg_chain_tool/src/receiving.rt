@@ -13,7 +13,7 @@ ghost use Rattle.dg_tool.specs.Verbs.{have_text};
 ghost use Rattle.dg_tool.specs.Done.{Completed, FedBoards};
 ghost use Rattle.dg_tool.specs.inner.OneBoard.{OnStore};
 ghost use Rattle.dg_chain_tool.specs.Receiving.{receive_trail};
-ghost use Rattle.dg_chain_tool.specs.Verbs.{receive_to};
+ghost use Rattle.dg_chain_tool.specs.inner.Words.{receive_to};
 ghost use Rattle.dg_chain_tool.specs.Done.{receive_rule};
 ghost use Rattle.dg_volume.specs.Filling.{new_row};
 

@@ -1,10 +1,11 @@
 -- What the commands of hash-chained images did, from the contracts of their calls.
 use Rattle.std.proofs.Common.{◌≡◌, ℕ, Bool, true, false, ◌&&◌, List, Some, refl, sym, ap, subst}
+use Rattle.std.specs.Prelude.{[], Option, unwrap_or}
 use Rattle.dg_base.specs.Hexadecimal.{hex_bytes}
 use Rattle.dg_base.specs.declared.answers.Status.{Status}
 use Rattle.dg_outside.specs.Outside.{Outside}
 use Rattle.dg_chain_tool.specs.Done.{ReceiveDone}
-use Rattle.dg_cli.specs.Chained.{bytes_by, root_in, Checked}
+use Rattle.dg_cli.specs.Chained.{root_in, Checked}
 
 -- ---- check
 
@@ -19,7 +20,7 @@ received image version name told root status a b e h = subst (λ (r : List ℕ).
 -- ---- the digits of a root
 
 pub root_told : (digits bytes : List ℕ) → hex_bytes digits ≡ Some bytes → bytes ≡ root_in digits
-root_told digits bytes e = sym (ap bytes_by e)
+root_told digits bytes e = sym (ap (λ (o : Option (List ℕ)). unwrap_or o []) e)
 
 pub both_front : (a b : Bool) → (a && b) ≡ true → a ≡ true
 both_front true b e = refl

@@ -3,9 +3,9 @@ use Rattle.std.proofs.Common.{◌≡◌, ℕ, List, sym, ap, ◌∙◌, subst}
 use Rattle.dg_base.specs.declared.answers.Status.{Status}
 use Rattle.dg_base.specs.declared.answers.Status.TheVariants as statuses
 use Rattle.dg_outside.specs.Outside.{Outside}
-use Rattle.dg_tool.specs.Rules.{FormatDone, InjectDone}
+use Rattle.dg_tool.specs.Done.{InputDone}
+use Rattle.dg_tool.specs.Rules.{format_rule, InjectDone}
 use Rattle.dg_chain_tool.specs.Done.{ReceiveDone}
-use Rattle.dg_trial.specs.Trials.{TrialEnds}
 use Rattle.dg_command.specs.Asking.{Asking, said_of_command, asking_of}
 use Rattle.dg_command.specs.declared.command.Asked.{Asked}
 use Rattle.dg_command.specs.declared.command.Command.{Command}
@@ -17,8 +17,8 @@ said_done c d e s a b h = subst (λ (x : Command). CommandOutcome (said_of_comma
 
 -- ---- commands that are given names and digits
 
-pub format_said : (told name : List ℕ) (used form : ℕ) (s : Status) (a b : Outside) → told ≡ name → FormatDone told used form s a b → FormatDone name used form s a b
-format_said told name used form s a b e h = subst (λ (t : List ℕ). FormatDone t used form s a b) e h
+pub format_said : (told name : List ℕ) (used form : ℕ) (s : Status) (a b : Outside) → told ≡ name → InputDone s (format_rule told used form) a b → InputDone s (format_rule name used form) a b
+format_said told name used form s a b e h = subst (λ (t : List ℕ). InputDone s (format_rule t used form) a b) e h
 
 pub inject_said : (image version : ℕ) (told name : List ℕ) (s : Status) (a b : Outside) → told ≡ name → InjectDone image version told s a b → InjectDone image version name s a b
 inject_said image version told name s a b e h = subst (λ (t : List ℕ). InjectDone image version t s a b) e h
@@ -29,11 +29,6 @@ receive_said image version told name digits root s a b e f h =
 
 pub check_said : (image : ℕ) (digits root : List ℕ) (s : Status) (a b : Outside) → digits ≡ root → Checked image (root_in digits) s a b → Checked image (root_in root) s a b
 check_said image digits root s a b e h = subst (λ (r : List ℕ). Checked image (root_in r) s a b) e h
-
--- ---- a trial never ends by a fault of the link
-
-pub no_link_of_a_trial : (s : Status) (motes pages seed : ℕ) (a b : Outside) → TrialEnds s motes pages seed a b → s ≡ statuses.LinkFault → ⊥
-no_link_of_a_trial s motes pages seed a b h e = subst (λ (x : Status). TrialEnds x motes pages seed a b) e h
 
 -- ---- what was asked for
 

@@ -1,5 +1,5 @@
 -- No verb over one board ends by a fault of the link.
-use Rattle.std.proofs.Common.{◌≡◌, ◌⊎◌, ⊎_elim, ℕ, ◌==◌, nat_lt, if◌then◌else◌, Bool, true, false, List, [], ◌∷◌, length, None, Result, Ok, Err, sym, subst}
+use Rattle.std.proofs.Common.{◌≡◌, ◌⊎◌, ⊎_elim, ℕ, ◌==◌, nat_lt, if◌then◌else◌, Bool, true, false, List, [], ◌∷◌, length, Option, None, Result, Ok, Err, sym, subst}
 use Rattle.dg_words.specs.Counts.{Rose}
 use Rattle.dg_base.specs.Sizes.{most_input}
 use Rattle.dg_base.specs.declared.answers.Status.{Status}
@@ -18,8 +18,10 @@ use Rattle.dg_end.specs.declared.ends.End.TheVariants as ends
 use Rattle.dg_end.proofs.AnswerLemmas.{answered_status, link_came}
 use Rattle.dg_chain.specs.Chain.{most_payload}
 use Rattle.dg_tool.specs.Endings.{VerbEnding, outcome_of, by_file, by_input, FirstInForm}
-use Rattle.dg_tool.specs.Done.{IsOfVerb, VerbRule, FirstDone, InputDone}
+use Rattle.dg_tool.specs.Done.{VerbRule, AtFirst, IsBoardStopped, OutcomeShows, OnBoards, FirstDone, InputDone}
+use Rattle.dg_tool.specs.inner.OneBoard.{IsOfVerb}
 use Rattle.dg_tool.specs.Rules.{MigrateDone}
+use Rattle.dg_trial.specs.Trials.{TrialEnds, TrialDone}
 use Rattle.dg_chain_tool.specs.Verbs.{wrap_by}
 use Rattle.dg_chain_tool.specs.Done.{TextComes, WrapDone}
 
@@ -30,14 +32,15 @@ link_told status outcome a b e h =
     let told : WritesAnswer statuses.LinkFault outcome a b = subst (λ (s : Status). WritesAnswer s outcome a b) e h in
     link_came outcome (answered_status statuses.LinkFault outcome a b told (λ x. cc) (λ x. cc))
 
-no_link : (status : Status) (outcome : Outcome) (a b : OutputState) → IsOfVerb outcome → WritesAnswer status outcome a b → status ≡ statuses.LinkFault → ⊥
-no_link status outcome a b verb h e = subst IsOfVerb (link_told status outcome a b e h) verb
+no_link : (status : Status) (outcome : Outcome) (rule : VerbRule) (failed : Type 0) (old new : List Device) (a b : OutputState) → OnBoards outcome rule failed old new → WritesAnswer status outcome a b → status ≡ statuses.LinkFault → ⊥
+no_link status outcome rule failed old new a b done h e =
+    subst (λ (o : Outcome). OutcomeShows o ((k : Option Store) × rule.chips k) (AtFirst IsBoardStopped old new) failed (new ≡ old)) (link_told status outcome a b e h) done.shows
 
 pub no_link_first : (status : Status) (rule : VerbRule) (a b : Outside) → FirstDone status rule a b → status ≡ statuses.LinkFault → ⊥
-no_link_first status rule a b h e = no_link status h.outcome a.output b.output h.allowed.0.of_verb h.answered e
+no_link_first status rule a b h e = no_link status h.outcome _ _ _ _ a.output b.output h.allowed.0 h.answered e
 
 pub no_link_input : (status : Status) (rule : List ℕ → VerbRule) (a b : Outside) → InputDone status rule a b → status ≡ statuses.LinkFault → ⊥
-no_link_input status rule a b h e = no_link status h.outcome a.output b.output h.allowed.did.of_verb h.answered e
+no_link_input status rule a b h e = no_link status h.outcome _ _ _ _ a.output b.output h.allowed.did h.answered e
 
 -- ---- wrap
 
@@ -64,6 +67,12 @@ pub no_link_wrap : (status : Status) (a b : Outside) → WrapDone status a b →
 no_link_wrap status a b h e =
     no_link_text h.outcome (by_input h.allowed.0.bytes wrap_by) (Rose a.input.reads b.input.reads) (input_of_verb h.allowed.0.bytes) h.allowed.0.comes (link_told status h.outcome a.output b.output e h.answered)
 
+-- ---- a trial
+
+pub no_link_trial : (motes pages seed : ℕ) (status : Status) (a b : Outside) → TrialDone motes pages seed status a b → status ≡ statuses.LinkFault → ⊥
+no_link_trial motes pages seed status a b h e =
+    subst (λ (o : Outcome). TrialEnds o motes pages seed a.boards b.boards) (link_told status h.outcome a.output b.output e h.answered) h.allowed.0
+
 -- ---- migrate, by the form of the first board
 
 abbrev pub FormLaw : Type 0
@@ -88,4 +97,4 @@ nowhere = record {
 pub no_link_migrate : FormLaw → (status : Status) (a b : Outside) → MigrateDone status a b → status ≡ statuses.LinkFault → ⊥
 no_link_migrate law status a b h e =
     let d = h.done in
-    some_form law a.boards (λ form first. no_link status d.outcome a.output b.output (d.allowed.0 form first).of_verb d.answered e)
+    some_form law a.boards (λ form first. no_link status d.outcome _ _ _ _ a.output b.output (d.allowed.0 form first) d.answered e)

@@ -1,5 +1,5 @@
 -- What the command that runs a base mote over the first board did (docs/COMMANDS.md, "Base").
-use Rattle.std.specs.Prelude.{◌≡◌, ℕ, List, [], ◌∷◌, codes}
+use Rattle.std.specs.Prelude.{◌≡◌, List, [], ◌∷◌, codes}
 use Rattle.dg_base.specs.declared.answers.Status.{Status}
 use Rattle.dg_base.specs.declared.answers.Status.TheVariants.{NoBoard}
 use Rattle.dg_nor.specs.Device.{Device}
@@ -14,6 +14,3 @@ abbrev pub BasedOver : Base → Status → Outside → Outside → (old new : Li
 BasedOver base status a b [] [] = TextDone (line (codes "noboard 1 0")) NoBoard status a b
 BasedOver base status a b (old ∷ others) (new ∷ rest) = BasedOn base status old new a b × (rest ≡ others)
 BasedOver base status a b old new = ⊥
-
-abbrev pub BaseDone : (id step seed : ℕ) → Status → Outside → Outside → Type 0
-BaseDone id step seed status a b = BasedOver (record { id = id; step = step; seed = seed }) status a b a.boards b.boards

@@ -1,12 +1,14 @@
 -- What the program does, by what its words ask for (docs/COMMANDS.md, "How a command ends").
-use Rattle.std.specs.Prelude.{◌≡◌, ◌≢◌, ◌⊎◌, ℕ, List, [], codes}
-use Rattle.dg_words.specs.Counts.{Rose}
+use Rattle.std.specs.Prelude.{◌≡◌, ◌≢◌, ◌⊎◌, ℕ, List, [], codes, Ok}
 use Rattle.dg_base.specs.declared.answers.Status.{Status}
-use Rattle.dg_base.specs.declared.answers.Status.TheVariants.{Done, Usage, Memory, WriteFault}
+use Rattle.dg_base.specs.declared.answers.Status.TheVariants.{Done, Usage, Memory}
 use Rattle.dg_object.specs.Object.{Row}
-use Rattle.dg_volume.specs.Store.{Store}
+use Rattle.dg_volume.specs.Store.{Store, held}
 use Rattle.dg_outside.specs.Outside.{Outside}
-use Rattle.dg_tool.specs.Rules.{FormatDone, InjectDone, OrderDone, BootDone, PingDone, DumpDone, MigrateDone}
+use Rattle.dg_tool.specs.Endings.{Acting}
+use Rattle.dg_tool.specs.Verbs.{ping_text, dump_by}
+use Rattle.dg_tool.specs.Done.{FirstDone, InputDone}
+use Rattle.dg_tool.specs.Rules.{reading_rule, format_rule, InjectDone, OrderDone, BootDone, MigrateDone}
 use Rattle.dg_chain_tool.specs.Done.{WrapDone, ReceiveDone}
 use Rattle.dg_replay.specs.Done.{ReplayDone}
 use Rattle.dg_rules.specs.Begins.{AreShaped}
@@ -17,7 +19,7 @@ use Rattle.dg_serve.specs.Served.{Began}
 use Rattle.dg_serve.specs.Traces.{trace, trace_lines}
 use Rattle.dg_serve.specs.Promised.{KeepsRules, ReplaysTo}
 use Rattle.dg_serve.specs.Networks.{NetworkServed}
-use Rattle.dg_trial.specs.Trials.{TrialEnds}
+use Rattle.dg_trial.specs.Trials.{TrialDone}
 use Rattle.dg_drip_run.specs.Dripped.{Dripped, played}
 use Rattle.dg_drip_run.specs.Causes.{DripEnds}
 use Rattle.dg_drip_run.specs.Promised.{GreatestIsKept, NothingFalls, SetsMakeAll, RoundsRaise, SweepsBringTheGreatest}
@@ -26,7 +28,7 @@ use Rattle.dg_command.specs.Asking.{Wrap, Check, Receive, Drip, Base, Asking, As
 use Rattle.dg_end.specs.Texts.{line}
 use Rattle.dg_cli.specs.Words.{TextDone}
 use Rattle.dg_cli.specs.Parts.{around_of}
-use Rattle.dg_cli.specs.Basing.{BaseDone}
+use Rattle.dg_cli.specs.Basing.{BasedOver}
 use Rattle.dg_cli.specs.Chained.{root_in, Checked}
 
 -- ---- serving
@@ -48,14 +50,6 @@ pub record ServeDone (turns seed : ℕ) (status : Status) (a b : Outside) : Type
 
 -- ---- the trial
 
--- The schedule that the seed makes is played over the boards, and nothing is read. Only a failed write raises the count of failed
--- writes. If it is played and reported, every mote keeps the image whole.
-abbrev pub TrialDone : (motes pages seed : ℕ) → Status → Outside → Outside → Type 0
-TrialDone motes pages seed status a b =
-    (b.input ≡ a.input)
-    × TrialEnds status motes pages seed a b
-    × (status ≡ WriteFault → Rose a.output.writes b.output.writes) × (status ≢ WriteFault → b.output.writes ≡ a.output.writes)
-
 -- ---- nodes
 
 -- no board is used, and the laws of how values spread hold of the run that was played
@@ -75,20 +69,21 @@ pub record DripDone (status : Status) (a b : Outside) : Type 0 where
 abbrev pub CommandOutcome : Said → Status → Outside → Outside → Type 0
 CommandOutcome (Replay flashes) status a b = ReplayDone status (around_of a) (around_of b)
 CommandOutcome (Serve turns seed flashes) status a b = ServeDone turns seed status a b
-CommandOutcome (Format name used form flash) status a b = FormatDone name used form status a b
+CommandOutcome (Format name used form flash) status a b = InputDone status (format_rule name used form) a b
 CommandOutcome (Inject image version name flash) status a b = InjectDone image version name status a b
 CommandOutcome (OrderSaid number image version flash) status a b =
     OrderDone (record { number = number; image = image; version = version }) status a b
 CommandOutcome (Boot flash) status a b = BootDone status a b
-CommandOutcome (Ping flash) status a b = PingDone status a b
-CommandOutcome (Dump image flash) status a b = DumpDone image status a b
+CommandOutcome (Ping flash) status a b = FirstDone status (reading_rule a.boards (λ s. Acting (Ok (ping_text s)))) a b
+CommandOutcome (Dump image flash) status a b = FirstDone status (reading_rule a.boards (λ s. dump_by (held s image))) a b
 CommandOutcome (Migrate flash) status a b = MigrateDone status a b
 CommandOutcome (Trial motes pages seed) status a b = TrialDone motes pages seed status a b
 CommandOutcome Wrap status a b = WrapDone status a b
 CommandOutcome (Check image root flash) status a b = Checked image (root_in root) status a b
 CommandOutcome (Receive image version name root flash) status a b = ReceiveDone image version name (root_in root) status a b
 CommandOutcome Drip status a b = DripDone status a b
-CommandOutcome (Base id step seed flash) status a b = BaseDone id step seed status a b
+CommandOutcome (Base id step seed flash) status a b =
+    BasedOver (record { id = id; step = step; seed = seed }) status a b a.boards b.boards
 
 -- by what the words ask for: some text of help, the version, or one line if the words are invalid
 abbrev pub CommandLineOutcome : Asking → Status → Outside → Outside → Type 0

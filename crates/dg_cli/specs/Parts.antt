@@ -4,10 +4,5 @@ use Rattle.dg_replay.specs.Around.{Around}
 
 -- the input, the output and the boards
 abbrev pub around_of : Outside → Around
-around_of a = record {
-  left = a.input.left;
-  reads = a.input.reads;
-  written = a.output.written;
-  writes = a.output.writes;
-  boards = a.boards;
-}
+around_of a =
+    record { left = a.input.left; reads = a.input.reads; written = a.output.written; writes = a.output.writes; boards = a.boards }

@@ -3,7 +3,7 @@ ghost use Rattle.std.specs.Prelude.{◌≡◌, ◌≢◌, ◌≤◌, map, Some, 
 ghost use Rattle.dg_outside.specs.Outside.{Outside, output_of, with_input, with_output, with_boards};
 ghost use Rattle.dg_end.specs.Texts.{line};
 ghost use Rattle.dg_end.specs.Writes.{WritesLast};
-ghost use Rattle.dg_cli.specs.Basing.{BaseDone};
+ghost use Rattle.dg_cli.specs.inner.Words.{BaseDone};
 
 use dg_base::{Sink, Source, Status, WriteFailed};
 use dg_nor::Nor;

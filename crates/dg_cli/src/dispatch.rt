@@ -14,7 +14,7 @@ use dg_command::Command;
 use dg_drip_run::drip;
 use dg_link::Link;
 use dg_nor::Nor;
-use dg_replay::replay;
+use dg_replay::{Unwatched, replay};
 use dg_serve::{serve_network, services_keep_the_rules};
 use dg_trial::trial;
 use std::alloc::Global;
@@ -46,7 +46,7 @@ pub(crate) fn dispatch<S: Source, K: Sink, N: Nor, L: Link, C: Clock>(
 {
     services_keep_the_rules();
     match command {
-        Command::Replay { .. } => replay(alloc, input, out, boards),
+        Command::Replay { .. } => replay(alloc, input, out, boards, &mut Unwatched),
         Command::Serve { turns, seed, .. } => {
             serve_network(alloc, input, boards, link, clock, *seed, *turns, out)
         }

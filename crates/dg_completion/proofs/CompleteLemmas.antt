@@ -1,4 +1,4 @@
--- Enough sweeps complete every image, the least first.
+-- Enough sweeps complete every image, the lowest first.
 use Rattle.std.proofs.Common.{◌≡◌, ℕ, zero, suc, ◌+◌, ◌-◌, ◌<◌, ◌≤◌, min, Bool, true, false, ◌&&◌, ◌||◌, cond, eqb, leb, ltb, List, [], ◌∷◌, ◌++◌, length, take, Option, Some, None, IfSome, refl, sym, ap, subst, ◌∙◌, inl, inr, arith, append_assoc}
 use Rattle.std.proofs.lemmas.Bool.{eq-eqb, ne_eqb, le-leb, leb-true, lt-ltb, ltb-true, and_parts, and_from, or_cases, or_right, cases_Bool, cases_lt, cases_eq}
 use Rattle.std.proofs.lemmas.List.{take_all}

@@ -1,4 +1,4 @@
--- After a round the mote at its end has one more page of the least image that is not whole everywhere, or as many as the other
+-- After a round the mote at its end has one more page of the lowest image that is not whole everywhere, or as many as the other
 -- mote.
 use Rattle.std.proofs.Common.{◌≡◌, ℕ, zero, suc, ◌+◌, ◌<◌, ◌≤◌, min, Bool, true, false, ◌&&◌, ◌||◌, cond, eqb, leb, ltb, List, length, Option, Some, None, IfSome, refl, sym, ap, subst, ◌∙◌, inl, inr, arith}
 use Rattle.std.proofs.lemmas.Bool.{cond-true, cond-false, eq-eqb, ne_eqb, le-leb, le-ltb, lt-ltb, cases_lt, cases_eq}

@@ -81,7 +81,7 @@ is_ahead (Some h) (Some g) =
     nat_le 1 (length h.complete) && (nat_lt g.version h.version
     || ((g.version == h.version) && nat_lt (length g.complete) (length h.complete)))
 
--- the least image in which the first store is ahead of the second, of those that wide motes forward, or narrow ones
+-- the lowest image in which the first store is ahead of the second, of those that wide motes forward, or narrow ones
 unfoldable pub least_ahead : (wide : Bool) → Store → Store → Option ℕ
 least_ahead wide s t = find (λ i. is_ahead (held s i) (held t i)) (shared wide)
 
@@ -104,8 +104,8 @@ pub record Raises (s t : Store) (i : ℕ) (after : Store) : Type 0 where
 abbrev pub HasRoomAt : World → ℕ → Type 0
 HasRoomAt w m = spare_room ≤ (store_at w m).room
 
--- A round from a to its neighbour b, both on, and both wide or both narrow: if a is ahead, b has one more page of the least image
--- in which a is ahead. What a keeps and all other motes are unchanged.
+-- A round from a to its neighbour b, both on, and both wide or both narrow: if a is ahead, b has one more page of the lowest
+-- image in which a is ahead. What a keeps and all other motes are unchanged.
 abbrev pub RoundLaw : Type 0
 RoundLaw = (w v : World) (a b i : ℕ) → WorldAgrees w → linked w a b ≡ true → wide_at w a ≡ wide_at w b → IsOn w a → IsOn w b
     → Follows w (round a b) v → HasRoomAt v a → HasRoomAt v b

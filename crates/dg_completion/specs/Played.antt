@@ -68,7 +68,7 @@ pub record RaisesOne (w : World) (a b i : ℕ) (v : World) : Type 0 where
   pub others : (j : ℕ) → j ≢ a → j ≢ b → site v j ≡ site w j
 
 -- The effect of rounds, wherever they were played. Their first ticks bring a mote to rest, and a complete one brings the second
--- mote a page of the least image in which the first one is ahead.
+-- mote a page of the lowest image in which the first one is ahead.
 pub record RoundsBring (played : List Played) : Type 0 where
   pub rests : (w v : World) (m : ℕ) → TicksPlayed played w m v → ComesToRest w m v
   pub raises : (w v : World) (a b i : ℕ) → RoundPlayed played w a b v

@@ -11,10 +11,7 @@ abbrev pub disturbs : Event → Bool
 disturbs (Tick mote dt word) = false
 disturbs (Hear mote dt word frame) = false
 disturbs (Last from to dt word) = false
-disturbs (Reset mote dt word) = true
-disturbs (Inject mote image version dt word) = true
-disturbs (Order mote number image version dt word) = true
-disturbs (Frame mote dt word bytes) = true
+disturbs event = true
 
 -- a tick, or a frame that was sent and is heard: it disturbs no rest
 abbrev pub IsFree : Event → Type 0

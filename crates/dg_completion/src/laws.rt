@@ -40,7 +40,7 @@ pub fn a_free_event_keeps_a_good_world()
     a_table_holds_sound_rows();
 }
 
-/// A round from a mote to its neighbour, both wide or both narrow, brings the neighbour one page. It is of the least image in
+/// A round from a mote to its neighbour, both wide or both narrow, brings the neighbour one page. It is of the lowest image in
 /// which the first mote is ahead, of those that such motes speak of. Nothing else that is kept changes.
 pub fn a_round_raises()
     ensures { RoundLaw }
@@ -110,7 +110,7 @@ pub fn scripts_end_complete()
 
 /// A round was played somewhere in a run of true events from a world that agrees with its table, and no power was cut in it. Then
 /// its first ticks brought its mote to rest. A complete round between two wide motes, or two narrow ones, brought the second a
-/// page of the least image in which the first was ahead.
+/// page of the lowest image in which the first was ahead.
 pub fn rounds_of_scripts_bring_pages()
     ensures brings { RoundsLaw }
     ensures nothing { RoundsBring [] }

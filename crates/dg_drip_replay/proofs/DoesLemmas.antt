@@ -13,7 +13,8 @@ use Rattle.dg_drip.specs.declared.node.SetFault.TheVariants as fault
 use Rattle.dg_drip.specs.declared.node.DripHeard.{DripHeard}
 use Rattle.dg_drip.specs.declared.node.DripHeard.TheVariants as what
 use Rattle.dg_drip.specs.declared.events.DripEvent.TheVariants.{Set, Tick, Hear, Last}
-use Rattle.dg_drip_replay.specs.Reports.{got, report_of_frame, report_of_last}
+use Rattle.dg_drip_replay.specs.Reports.{got, report_of_frame}
+use Rattle.dg_drip_replay.specs.inner.Words.{report_of_last}
 use Rattle.dg_drip_replay.specs.Standing.{NetworkStands, DripDoes, Hears, node_at}
 use Rattle.dg_drip_replay.specs.declared.network.DripNetwork.{DripNetwork}
 use Rattle.dg_drip_replay.specs.declared.report.DripReport.{DripReport}

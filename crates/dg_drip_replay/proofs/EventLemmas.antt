@@ -17,7 +17,8 @@ use Rattle.dg_drip.specs.declared.node.DripHeard.{DripHeard}
 use Rattle.dg_drip.specs.declared.node.DripHeard.TheVariants as what
 use Rattle.dg_drip.specs.declared.events.DripEvent.TheVariants.{Set, Tick}
 use Rattle.dg_drip.proofs.OrderLemmas.{less_true, less_false, at_most_anti}
-use Rattle.dg_drip_replay.specs.Reports.{got_if_other, got, report_of_event}
+use Rattle.dg_drip_replay.specs.Reports.{got, report_of_event}
+use Rattle.dg_drip_replay.specs.inner.Words.{got_if_other}
 use Rattle.dg_drip_replay.specs.Standing.{NetworkStands, node_at}
 use Rattle.dg_drip_replay.specs.declared.network.DripNetwork.{DripNetwork}
 use Rattle.dg_drip_replay.specs.declared.report.DripReport.{DripReport}

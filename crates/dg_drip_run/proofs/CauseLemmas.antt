@@ -7,7 +7,7 @@ use Rattle.dg_words.specs.Counts.{Rose}
 use Rattle.dg_base.specs.Outside.{AtEnd, ahead_of}
 use Rattle.dg_base.specs.declared.answers.Status.{Status}
 use Rattle.dg_base.specs.declared.answers.Status.TheVariants as statuses
-use Rattle.dg_script.specs.LineReading.{IsLine, IsLastLine, HasNoEnd}
+use Rattle.dg_lines.specs.LineReading.{IsLine, IsLastLine, HasNoEnd}
 use Rattle.dg_script.specs.Faults.{fault_name}
 use Rattle.dg_script.specs.declared.fault.LineFault.{LineFault}
 use Rattle.dg_outside.specs.Outside.{OutputState, Outside}

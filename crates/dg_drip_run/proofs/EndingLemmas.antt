@@ -8,7 +8,7 @@ use Rattle.std.proofs.lemmas.Bool.Decides.{nat_tests}
 use Rattle.std.proofs.lemmas.List.Splits.{slice_split_at, slice_split_none, length-slice_split}
 use Rattle.std.proofs.Math.Seq.{take-append-add}
 use Rattle.dg_base.proofs.LineLemmas.{lines-ended, lines-last}
-use Rattle.dg_script.specs.LineReading.{IsLine, IsLastLine, HasNoEnd}
+use Rattle.dg_lines.specs.LineReading.{IsLine, IsLastLine, HasNoEnd}
 use Rattle.dg_drip.specs.Network.{are_drip_neighbours}
 use Rattle.dg_drip_script.specs.Lines.{drip_line_of, line_fault}
 use Rattle.dg_drip_script.specs.Scripts.{DripItem, DripScript, first_script, spelled_behind, then_line, standing_of, with_drip_line}

@@ -3,10 +3,10 @@ use Rattle.std.proofs.Common.{◌≡◌, inl, inr, ⊎_elim, ℕ, ◌<◌, ◌+�
 use Rattle.std.specs.Prelude.{nat_lt}
 use Rattle.dg_base.specs.Outside.{AtEnd}
 use Rattle.std.proofs.lemmas.Bool.Decides.{nat_tests}
-use Rattle.dg_script.specs.LineReading.{Reading, FirstLine, Gives, NextAnswer}
+use Rattle.dg_lines.specs.LineReading.{Reading, FirstLine, Gives, NextAnswer}
 use Rattle.dg_script.specs.Sizes.{most_line}
-use Rattle.dg_script.specs.declared.line_reader.ReadStop.{ReadStop}
-use Rattle.dg_script.specs.declared.line_reader.ReadStop.TheVariants as stop
+use Rattle.dg_lines.specs.declared.line_reader.ReadStop.{ReadStop}
+use Rattle.dg_lines.specs.declared.line_reader.ReadStop.TheVariants as stop
 use Rattle.dg_script.specs.declared.fault.LineFault.TheVariants as lines
 use Rattle.dg_outside.specs.Outside.{OutputState}
 use Rattle.dg_end.specs.declared.ends.End.{End}

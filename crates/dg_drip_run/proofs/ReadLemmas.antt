@@ -4,7 +4,7 @@ use Rattle.std.specs.Prelude.{IsErrAnd}
 use Rattle.dg_words.specs.Counts.{Rose}
 use Rattle.dg_base.specs.Outside.{Takes, Puts, PutsPrefix, AtEnd}
 use Rattle.dg_base.proofs.OutsideLemmas.{Takes-nil, Takes-join, Puts-nil, Puts-join}
-use Rattle.dg_script.specs.LineReading.{Reading, HasNoEnd, IsLine, IsLastLine, Gives, IsAtEnd, IsTooLong}
+use Rattle.dg_lines.specs.LineReading.{Reading, HasNoEnd, IsLine, IsLastLine, Gives, IsAtEnd, IsTooLong}
 use Rattle.dg_script.specs.Sizes.{most_used_bytes}
 use Rattle.dg_outside.specs.Outside.{InputState, OutputState}
 use Rattle.dg_end.specs.Lines.{Outcome}

@@ -9,7 +9,8 @@ use Rattle.dg_drip.specs.declared.events.DripEvent.{DripEvent}
 use Rattle.dg_drip.specs.declared.events.DripEvent.TheVariants.{Tick, Last}
 use Rattle.dg_drip.specs.Spread.{drip_round, round_of_key, sweeps}
 use Rattle.dg_rounds.specs.Rounds.{pace, rounds_of}
-use Rattle.dg_drip_script.specs.Scripts.{DripItem, unreported_items, rounds_items}
+use Rattle.dg_drip_script.specs.Scripts.{DripItem, unreported_items}
+use Rattle.dg_drip_script.specs.Scripts.{rounds_items}
 use Rattle.dg_drip_run.specs.inner.Playing.{DripItemsPlayed, StaysPlaying, IsPlaying, AreBelow}
 use Rattle.dg_drip_run.specs.declared.player.Player.{Player}
 use Rattle.dg_drip_run.specs.declared.player.PlayStop.{PlayStop}

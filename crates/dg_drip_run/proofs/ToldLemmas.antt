@@ -3,9 +3,9 @@ use Rattle.std.proofs.Common.{◌≡◌, ◌⊎◌, inl, inr, ⊎_elim, ℕ, ◌
 use Rattle.std.proofs.lemmas.List.{length-drop}
 use Rattle.dg_base.specs.Outside.{Puts}
 use Rattle.dg_base.proofs.OutsideLemmas.{Puts-join}
-use Rattle.dg_script.specs.LineReading.{HasNoEnd, IsLine, IsLastLine, FirstLine}
+use Rattle.dg_lines.specs.LineReading.{HasNoEnd, IsLine, IsLastLine, FirstLine}
 use Rattle.dg_script.specs.Sizes.{most_used_bytes}
-use Rattle.dg_script.specs.LineReading.{most_kept}
+use Rattle.dg_lines.specs.LineReading.{most_kept}
 use Rattle.dg_drip_script.specs.Scripts.{report_of}
 use Rattle.dg_outside.specs.Outside.{OutputState}
 use Rattle.dg_drip_run.specs.Dripped.{AreTold, FewAhead}

@@ -3,7 +3,7 @@ use Rattle.std.specs.Prelude.{◌≡◌, ◌⊎◌, ℕ, ◌+◌, ◌-◌, ◌<�
 use Rattle.dg_words.specs.Counts.{Rose}
 use Rattle.dg_base.specs.Outside.{Takes, Puts, PutsPrefix, AtEnd}
 use Rattle.dg_base.specs.declared.answers.Status.{Status}
-use Rattle.dg_script.specs.LineReading.{IsLine, IsLastLine, HasNoEnd, most_kept}
+use Rattle.dg_lines.specs.LineReading.{IsLine, IsLastLine, HasNoEnd, most_kept}
 use Rattle.dg_script.specs.declared.fault.LineFault.TheVariants as fault
 use Rattle.dg_outside.specs.Outside.{InputState, OutputState, Outside}
 use Rattle.dg_end.specs.Lines.{Outcome}

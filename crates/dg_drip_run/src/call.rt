@@ -16,7 +16,8 @@ use crate::lines::play_text;
 use crate::player::Player;
 use dg_base::{Sink, Source, Status};
 use dg_end::{End, answer};
-use dg_script::{LineFault, LineReader, ReadStop};
+use dg_lines::{LineReader, ReadStop};
+use dg_script::LineFault;
 use std::alloc::Global;
 
 /// How a line that is too long ends the replay.

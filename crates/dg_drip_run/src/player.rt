@@ -6,7 +6,8 @@ ghost use Rattle.dg_rounds.specs.Rounds.{rounds_of};
 ghost use Rattle.dg_drip_replay.specs.Standing.{FitsDripEvent, time_of};
 ghost use Rattle.dg_drip_script.specs.Lines.{FitsDripLine, DripStandsAt};
 ghost use Rattle.dg_drip_script.specs.Reports.{reported_text};
-ghost use Rattle.dg_drip_script.specs.Scripts.{first_script, unreported_items, rounds_items, with_drip_line};
+ghost use Rattle.dg_drip_script.specs.Scripts.{first_script, unreported_items, with_drip_line};
+ghost use Rattle.dg_drip_script.specs.Scripts.{rounds_items};
 ghost use Rattle.dg_drip_run.specs.inner.Playing.{PlayerStands, IsPlaying, StaysPlaying, DripItemsPlayed, LinePlayed};
 
 use dg_drip::{DripEvent, KEYS};

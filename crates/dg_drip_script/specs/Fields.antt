@@ -1,14 +1,10 @@
 -- The fields of a line: all are numbers (docs/SCRIPTS.md, "Scripts of nodes").
-use Rattle.std.specs.Prelude.{ℕ, nat_le, nat_lt, ◌&&◌, List, [], ◌∷◌, map, Option, Some, None, option_map}
-use Rattle.dg_base.specs.Numbers.{number_of}
+use Rattle.std.specs.Prelude.{ℕ, nat_le, nat_lt, ◌&&◌, List, [], ◌∷◌, Option, Some, None, option_map}
 use Rattle.dg_script.specs.Results.{◌>>?◌, kept_if}
 
 -- a field: its number, or None if it is not one
 abbrev pub Field : Type 0
 Field = Option ℕ
-
-abbrev pub numbers_of_words : List (List ℕ) → List Field
-numbers_of_words words = map number_of words
 
 -- exactly one field, exactly two, and so on
 abbrev pub one_number : List Field → Option Field

@@ -3,3 +3,4 @@ pub mod Fields
 pub mod Lines
 pub mod Scripts
 pub mod Reports
+pub mod inner

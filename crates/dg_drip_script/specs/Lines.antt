@@ -1,12 +1,13 @@
 -- The lines of a script of nodes (docs/SCRIPTS.md, "Scripts of nodes").
 use Rattle.std.specs.Prelude.{◌≡◌, false, ℕ, ◌<◌, ◌≤◌, ◌==◌, ◌&&◌, not, nat_lt, Bool, if◌then◌else◌, List, [], ◌∷◌, length, codes}
-use Rattle.std.specs.Prelude.{Option, Some, None, Result, Ok, Err}
+use Rattle.std.specs.Prelude.{map, Option, Some, None, ok_or, Result, Ok, Err}
+use Rattle.dg_base.specs.Numbers.{number_of}
 use Rattle.dg_script.specs.Lines.{is_comment}
 use Rattle.dg_script.specs.Results.{◌>>?◌, kept_if}
 use Rattle.dg_script.specs.Words.{words_of, same}
 use Rattle.dg_drip.specs.declared.events.DripEvent.TheVariants as event
 use Rattle.dg_drip_replay.specs.Standing.{FitsDripEvent}
-use Rattle.dg_drip_script.specs.Fields.{Field, numbers_of_words, one_number, two_numbers, four_numbers, five_numbers, field_below}
+use Rattle.dg_drip_script.specs.Fields.{Field, one_number, two_numbers, four_numbers, five_numbers, field_below}
 use Rattle.dg_drip_script.specs.Fields.{from_one_to}
 use Rattle.dg_drip_script.specs.Sizes.{most_nodes, most_sweeps, most_line, most_number, key_count}
 use Rattle.dg_drip_script.specs.declared.line.DripLine.{DripLine}
@@ -19,20 +20,13 @@ use Rattle.dg_script.specs.declared.fault.LineFault.TheVariants as lines
 
 -- ---- the faults of a line in their order: its number of fields, its place, its numbers
 
-abbrev pub or_number_fault : Option DripLine → Result DripLine DripFault
-or_number_fault None = Err Number
-or_number_fault (Some line) = Ok line
-
 abbrev pub shaped : {A : Type 0} → Option A → (stands : Bool) → (A → Option DripLine) → Result DripLine DripFault
 shaped None stands read = Err Verb
-shaped (Some fields) stands read = if stands then or_number_fault (read fields) else Err Place
+shaped (Some fields) stands read = if stands then ok_or (read fields) Number else Err Place
 
 -- `nodes` comes first and once, and `link` before the first event
 abbrev pub has_nodes : Standing → Bool
 has_nodes at = not (at.nodes == 0)
-
-abbrev pub may_link : Standing → Bool
-may_link at = has_nodes at && not at.begun
 
 -- two different nodes
 abbrev pub pair_of : (nodes : ℕ) → Field × Field → Option (ℕ × ℕ)
@@ -74,7 +68,7 @@ event_line at verb fields =
 abbrev pub verb_line : Standing → (verb : List ℕ) → List Field → Result DripLine DripFault
 verb_line at verb fields =
     if same verb (codes "nodes") then count_line (at.nodes == 0) most_nodes Nodes fields
-    else if same verb (codes "link") then pair_line (may_link at) at.nodes Link fields
+    else if same verb (codes "link") then pair_line (has_nodes at && not at.begun) at.nodes Link fields
     else if same verb (codes "round") then pair_line (has_nodes at) at.nodes Round fields
     else if same verb (codes "sweeps") then count_line (has_nodes at) most_sweeps Sweeps fields
     else event_line at verb fields
@@ -82,7 +76,7 @@ verb_line at verb fields =
 -- the line of words. A line without words, and one whose first word begins with `#`, say nothing
 abbrev pub drip_said : Standing → List (List ℕ) → Result DripLine DripFault
 drip_said at [] = Ok Nothing
-drip_said at (word ∷ fields) = if is_comment word then Ok Nothing else verb_line at word (numbers_of_words fields)
+drip_said at (word ∷ fields) = if is_comment word then Ok Nothing else verb_line at word (map number_of fields)
 
 -- the line that a text spells after others, or its fault
 unfoldable pub drip_line_of : Standing → List ℕ → Result DripLine DripFault

@@ -37,24 +37,24 @@ standing_of s = record { nodes = s.nodes; begun = s.begun }
 abbrev pub unreported_items : List DripEvent → List DripItem
 unreported_items events = map (λ e. record { event = e; reported = false }) events
 
--- the rounds between these pairs of nodes
-abbrev pub rounds_items : List (ℕ × ℕ) → List DripItem
-rounds_items pairs = flat_map (λ p. unreported_items (drip_round p.0 p.1)) pairs
-
 abbrev pub with_items : DripScript → List DripItem → DripScript
 with_items s items = record s { items = s.items ++ items }
 
 abbrev pub begun_script : DripScript → DripScript
 begun_script s = record s { begun = true }
 
+-- an event, round or sweep came, and gave these items
+abbrev pub and_items : DripScript → List DripItem → DripScript
+and_items s items = record s { begun = true; items = s.items ++ items }
+
 -- a script, and one line more
 abbrev pub with_drip_line : DripScript → DripLine → DripScript
 with_drip_line s Nothing = s
 with_drip_line s (Nodes count) = record s { nodes = count }
 with_drip_line s (Link a b) = if are_drip_neighbours s.links a b then s else record s { links = s.links ++ (a, b) ∷ [] }
-with_drip_line s (EventLine event) = with_items (begun_script s) (record { event = event; reported = true } ∷ [])
-with_drip_line s (Round a b) = with_items (begun_script s) (unreported_items (drip_round a b))
-with_drip_line s (Sweeps count) = with_items (begun_script s) (rounds_items (sweeps count s.links))
+with_drip_line s (EventLine event) = and_items s (record { event = event; reported = true } ∷ [])
+with_drip_line s (Round a b) = and_items s (unreported_items (drip_round a b))
+with_drip_line s (Sweeps count) = and_items s (flat_map (λ p. unreported_items (drip_round p.0 p.1)) (sweeps count s.links))
 
 -- the script that the texts of lines spell after a script, where none of them has a fault
 abbrev pub then_line : Result DripLine DripFault → (DripLine → Option DripScript) → Option DripScript
@@ -85,3 +85,7 @@ text_of_run w (i ∷ items) = reported_text (report_of_event w i.reported i.even
 
 abbrev pub report_of : DripScript → List ℕ
 report_of s = text_of_run (start s.links) s.items
+
+-- the rounds between these pairs of nodes
+abbrev pub rounds_items : List (ℕ × ℕ) → List DripItem
+rounds_items pairs = flat_map (λ p. unreported_items (drip_round p.0 p.1)) pairs

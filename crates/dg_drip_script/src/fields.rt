@@ -1,7 +1,8 @@
 //! The fields of a line, as numbers.
 ghost use Rattle.std.specs.Prelude.{◌≡◌, ◌≤◌, ◌<◌, IfSome};
 ghost use Rattle.dg_script.specs.Words.{words_of};
-ghost use Rattle.dg_drip_script.specs.Fields.{field_below, from_one_to, numbers_of_words, one_number, two_numbers, three_numbers};
+ghost use Rattle.dg_drip_script.specs.Fields.{field_below, from_one_to, one_number, two_numbers, three_numbers};
+ghost use Rattle.dg_drip_script.specs.inner.Words.{numbers_of_words};
 ghost use Rattle.dg_drip_script.specs.Fields.{four_numbers, five_numbers};
 
 use dg_base::parse_u32;

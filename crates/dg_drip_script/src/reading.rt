@@ -1,8 +1,10 @@
 //! Reads a line of a script of nodes.
 ghost use Rattle.std.specs.Prelude.{◌≡◌, ◌<◌, ◌==◌, IfSome, IfOk};
 ghost use Rattle.dg_script.specs.Words.{same, words_of};
-ghost use Rattle.dg_drip_script.specs.Fields.{numbers_of_words, four_numbers, five_numbers};
-ghost use Rattle.dg_drip_script.specs.Lines.{shaped, has_nodes, may_link, pair_of, drip_tick_of, drip_hear_of, set_of};
+ghost use Rattle.dg_drip_script.specs.Fields.{four_numbers, five_numbers};
+ghost use Rattle.dg_drip_script.specs.inner.Words.{numbers_of_words};
+ghost use Rattle.dg_drip_script.specs.Lines.{shaped, has_nodes, pair_of, drip_tick_of, drip_hear_of, set_of};
+ghost use Rattle.dg_drip_script.specs.inner.Words.{may_link};
 ghost use Rattle.dg_drip_script.specs.Lines.{count_line, pair_line, event_line, verb_line, drip_line_of};
 ghost use Rattle.dg_drip_script.specs.Lines.{FitsDripLine, DripStandsAt};
 ghost use Rattle.dg_drip_script.specs.Sizes.{most_nodes, most_sweeps};

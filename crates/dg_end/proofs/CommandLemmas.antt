@@ -14,7 +14,8 @@ module _ (status : Status) (outcome : Outcome) (a b : Outside) (answered : Write
     outcome = outcome;
     allowed = allowed;
     answered = answered;
-    link = (link, clock);
+    link = link;
+    clock = clock;
     counts = record { read_counts = reads; write_counts = writes; link_counts = same_least a.link.failures b.link.failures (ap (λ l. l.failures) link) };
   }
 

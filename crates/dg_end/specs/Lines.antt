@@ -39,10 +39,8 @@ status_of ends.NoImage = statuses.NoImage
 status_of ends.TooLong = statuses.TooLong
 status_of ends.TooMany = statuses.TooMany
 status_of (ends.NoBoard need have) = statuses.NoBoard
-status_of (ends.BadHex fault) = statuses.BadInput
-status_of (ends.BadLine number fault) = statuses.BadInput
-status_of (ends.BadProfile fault) = statuses.BadInput
 status_of (ends.Refused cause) = statuses.Refused
+status_of end = statuses.BadInput
 
 abbrev pub bad_line : (number : ℕ) → (cause : List ℕ) → List ℕ
 bad_line number cause = line (codes "line" ++ numbers (number ∷ []) ++ 32 ∷ cause)

@@ -4,7 +4,7 @@ use Rattle.dg_words.specs.Counts.{Rose}
 use Rattle.dg_base.specs.Outside.{Puts, PutsPrefix}
 use Rattle.dg_base.specs.declared.answers.Status.{Status}
 use Rattle.dg_base.specs.declared.answers.Status.TheVariants as statuses
-use Rattle.dg_outside.specs.Outside.{Outside, OutputState, SameLink, CountsRise}
+use Rattle.dg_outside.specs.Outside.{Outside, OutputState, CountsRise}
 use Rattle.dg_end.specs.Lines.{Outcome, outcome_status, outcome_line, finish_line}
 use Rattle.dg_end.specs.declared.ends.End.{End}
 
@@ -31,5 +31,6 @@ pub record CommandEnds (status : Status) (allows : Outcome → Type 0) (a b : Ou
   pub outcome : Outcome
   pub allowed : allows outcome
   pub answered : WritesAnswer status outcome a.output b.output
-  pub link : SameLink a b
+  pub link : b.link ≡ a.link
+  pub clock : b.clock ≡ a.clock
   pub counts : CountsRise a b

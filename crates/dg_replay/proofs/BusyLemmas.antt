@@ -3,11 +3,11 @@ use Rattle.std.proofs.Common.{false, ◌≡◌, ℕ, ◌<◌, true, List, [], �
 use Rattle.std.specs.Prelude.{Option, Some, None, Result, Ok, Err, IfSome}
 use Rattle.std.specs.List.{AllByRecursion}
 use Rattle.dg_nor.specs.Device.{Device}
-use Rattle.dg_object.specs.Object.{Row}
+use Rattle.dg_object.specs.Object.{Row, row_of}
 use Rattle.dg_base.specs.declared.events.Event.{Event}
 use Rattle.dg_base.specs.declared.events.Cut.{Cut as CutOfPower}
 use Rattle.dg_rounds.specs.Rounds.{times, round, sweep}
-use Rattle.dg_script.specs.Fitting.{FitsCut, FitsLine, StandsAt, IsPlayed, UsesBoard, declared_row}
+use Rattle.dg_script.specs.Fitting.{FitsCut, FitsLine, StandsAt, IsPlayed, UsesBoard}
 use Rattle.dg_script.specs.Items.{Item, Declares, Applies, unreported, item_by, place_behind}
 use Rattle.dg_script.specs.Places.{first_place, place_after}
 use Rattle.dg_script.specs.declared.place.Place.{Place}
@@ -58,7 +58,7 @@ no_stop row [] left w initial now e s = let at : StopsInItem w (Declares row ∷
 no_stop row (x ∷ xs) [] w initial now e s = s.there
 no_stop row (x ∷ xs) (y ∷ ys) w initial now e s = one_behind xs ys y (tails (Declares row) x [] (xs ++ y ∷ ys) e)
 
-pub image_has : (done : List Line) (image version : ℕ) (name content : List ℕ) → HasItems done (Image image version name content) (Declares (declared_row image version name content) ∷ [])
+pub image_has : (done : List Line) (image version : ℕ) (name content : List ℕ) → HasItems done (Image image version name content) (Declares (row_of image version name content) ∷ [])
 image_has done image version name content =
     record {
       are = refl;
@@ -69,7 +69,7 @@ image_has done image version name content =
       ready = λ place. refl;
       enough = λ boards. refl;
       cuts = λ place fits. fits;
-      uses = λ begun left w initial now parts s. no_stop (declared_row image version name content) begun left w initial now parts s;
+      uses = λ begun left w initial now parts s. no_stop (row_of image version name content) begun left w initial now parts s;
       stops = λ left w board image initial now s. s;
     }
 

@@ -26,7 +26,8 @@ use Rattle.dg_world.specs.declared.world.WorldFault.{WorldFault}
 use Rattle.dg_world.specs.declared.world.WorldFault.TheVariants.{Memory, Flash, TooMany, NotAVolume, NoImage}
 use Rattle.dg_replay.specs.Items.{next_items}
 use Rattle.dg_replay.specs.Replayed.{Progress, Untouched, item_played}
-use Rattle.dg_replay.specs.Untouched.{image_at, IsElsewhere, KeepBytes, FormatsNone, LineKeepsBytes, TextKeepsBytes}
+use Rattle.dg_replay.specs.Untouched.{IsElsewhere, KeepBytes, FormatsNone, LineKeepsBytes, TextKeepsBytes}
+use Rattle.dg_replay.specs.inner.Words.{image_at}
 use Rattle.dg_replay.proofs.ItemLemmas.{items_next}
 use Rattle.dg_replay.proofs.StepLemmas.{unreported_join, times_next}
 

@@ -18,7 +18,8 @@ use Rattle.dg_replay.specs.Items.{UsesBoards, lacking, beginning_of, motes_in, e
 use Rattle.dg_world.specs.Worlds.{IsWorld}
 use Rattle.dg_replay.specs.Playing.{InWorld, Ready}
 use Rattle.dg_script.specs.Places.{first_place, fault_at_end}
-use Rattle.dg_script.specs.Script.{Script, script_from, end_fault, numbered}
+use Rattle.dg_script.specs.Script.{Script, script_from, end_fault}
+use Rattle.dg_script.specs.inner.Words.{numbered}
 use Rattle.dg_script.specs.declared.fault.LineFault.{LineFault}
 use Rattle.dg_script.specs.declared.place.Place.{Place}
 use Rattle.dg_script.specs.declared.fault.LineFault.TheVariants as line_fault
@@ -36,7 +37,8 @@ use Rattle.dg_replay.specs.declared.player.Player.{Player}
 use Rattle.dg_script.specs.declared.line.Line.{Line}
 use Rattle.dg_replay.specs.declared.stop.Stop.{Stop}
 use Rattle.dg_replay.specs.Shown.{Saw}
-use Rattle.dg_replay.specs.Stages.{span, bytes_taken, failures}
+use Rattle.dg_replay.specs.Stages.{span, failures}
+use Rattle.dg_replay.specs.inner.Words.{bytes_taken}
 use Rattle.dg_replay.specs.declared.stop.Stop.TheVariants.{Memory, BadInput, WriteFault, FlashFault, TooMany, NoBoard, NoImage, NotAVolume}
 use Rattle.dg_replay.proofs.NearLemmas.{near_later}
 use Rattle.dg_replay.proofs.BytesLemmas.{keep_read, keep_then, untouched_done}

@@ -19,14 +19,16 @@ use Rattle.dg_script.specs.Script.{Script}
 use Rattle.dg_script.specs.declared.fault.LineFault.{LineFault}
 use Rattle.dg_world.specs.Boards.{BoardStopped}
 use Rattle.dg_replay.specs.Boards.{EventNext, BoardsStand}
-use Rattle.dg_replay.specs.Ending.{Ending, Ends, NoBoards, TooManyEvents, FaultAt, Over, events_in, by_fault, by_events, by_boards, ending_from, ending_status, used}
+use Rattle.dg_replay.specs.Ending.{Ending, Ends, NoBoards, TooManyEvents, FaultAt, Over, events_in, by_fault, by_boards, ending_from, ending_status, used}
+use Rattle.dg_replay.specs.inner.Words.{by_events}
 use Rattle.dg_replay.specs.Replayed.{Progress, played_text, AtTooMany, IsWholeReport, Wrote, BoardsLeft, IsCaused, IsSettled, DoneIsWhole, RestsOnTaken, EndsNear, ReadsNear, NoVolumeThere, NoImageThere}
 use Rattle.dg_replay.specs.Replaying.{HasFew, ReadyToEnd, EndsWith, ScriptReplayed}
 use Rattle.dg_base.specs.declared.events.Step.{Step}
 use Rattle.dg_script.specs.declared.line.Line.{Line}
 use Rattle.dg_script.specs.declared.line.Line.TheVariants.{Nothing, Motes, Golden, Boards as BoardsLine, Link, Narrow, Image, Cut, Happens as EventLine, Round, Sweeps}
 use Rattle.dg_replay.specs.Shown.{Saw}
-use Rattle.dg_replay.specs.Stages.{span, bytes_taken, failures}
+use Rattle.dg_replay.specs.Stages.{span, failures}
+use Rattle.dg_replay.specs.inner.Words.{bytes_taken}
 use Rattle.dg_replay.proofs.ItemLemmas.{items_split, items_first, events_among-append}
 
 wrote_whole : {table : List Row} {script : Script} (e : Ending) (c : Progress table script) (text : List ℕ) → IsWholeReport e c text → Wrote (ending_status e) e c text

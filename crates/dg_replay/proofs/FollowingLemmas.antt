@@ -5,10 +5,10 @@ use Rattle.std.proofs.lemmas.Bool.Decides.{nat_tests}
 use Rattle.dg_nor.specs.Device.{Device}
 use Rattle.dg_script.specs.Sizes.{most_line}
 use Rattle.dg_script.specs.Lines.{line_of}
-use Rattle.dg_script.specs.LineReading.{Reading, FirstLine, NextAnswer}
+use Rattle.dg_lines.specs.LineReading.{Reading, FirstLine, NextAnswer}
 use Rattle.dg_script.specs.declared.fault.LineFault.TheVariants as line_fault
-use Rattle.dg_script.specs.declared.line_reader.ReadStop.{ReadStop}
-use Rattle.dg_script.specs.declared.line_reader.ReadStop.TheVariants as read_stop
+use Rattle.dg_lines.specs.declared.line_reader.ReadStop.{ReadStop}
+use Rattle.dg_lines.specs.declared.line_reader.ReadStop.TheVariants as read_stop
 use Rattle.dg_script.specs.declared.place.Place.{Place}
 use Rattle.dg_replay.specs.Following.{GivenPlayed, HaltedAs, NextPlayed}
 use Rattle.dg_replay.specs.Playing.{Stood}
@@ -17,7 +17,8 @@ use Rattle.dg_replay.specs.declared.halt.Halt.{Halt}
 use Rattle.dg_replay.specs.declared.halt.Halt.TheVariants.{ReadFault, TooLong, Stopped}
 use Rattle.dg_replay.specs.declared.player.Player.{Player}
 use Rattle.dg_replay.specs.declared.stop.Stop.{Stop}
-use Rattle.dg_replay.specs.Stages.{Baseline, DoneSoFar, ReplayState, line_read, bytes_taken}
+use Rattle.dg_replay.specs.Stages.{Baseline, DoneSoFar, ReplayState, line_read}
+use Rattle.dg_replay.specs.inner.Words.{bytes_taken}
 use Rattle.dg_replay.specs.Untouched.{TextKeepsBytes}
 use Rattle.dg_replay.specs.declared.stop.Stop.TheVariants.{BadInput}
 use Rattle.dg_replay.proofs.BytesLemmas.{text_same}

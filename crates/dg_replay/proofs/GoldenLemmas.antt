@@ -24,7 +24,8 @@ use Rattle.dg_rules.specs.Golden.{GoldenNetwork, network_world, PlaysGolden, Fin
 use Rattle.dg_rules.specs.Begins.{PlaysFrom, StoresAgree, AreShaped, HoldsTo, HoldsToThen, PlaysBoards}
 use Rattle.dg_rules.specs.Promises.{StopsAgree}
 use Rattle.dg_script.specs.Items.{Item, Applies, item_by, place_behind, items_behind, items_of}
-use Rattle.dg_replay.specs.Items.{StartState, UsesBoards, BringsNone, IsNoFrame, Beginning, beginning_of, no_beginning, next_items}
+use Rattle.dg_replay.specs.Items.{StartState, UsesBoards, IsNoFrame, Beginning, beginning_of, next_items}
+use Rattle.dg_replay.specs.inner.Words.{no_beginning}
 use Rattle.dg_completion.specs.Completion.{IsEnough}
 use Rattle.dg_completion.specs.Ends.{EndsInRest, PagesCome, KeepsNewest, EndsLaw, EndsPipelineLaw}
 use Rattle.dg_completion.proofs.GrowLemmas.{all_append, all_times}
@@ -149,7 +150,7 @@ halves_agree laws input c f w step reported more honest is next here holds =
 abbrev HonestAlways : Item → Type 0
 HonestAlways item = (w : World) → HonestItem item w
 
-event_honest : (event : Event) (table : List Row) → BringsNone event → HonestEvent table event
+event_honest : (event : Event) (table : List Row) → IsNoFrame (EventLine event) → HonestEvent table event
 event_honest (Tick mote dt word) table none = tt
 event_honest (Hear mote dt word frame) table none = tt
 event_honest (Last from to dt word) table none = tt

@@ -17,7 +17,8 @@ use Rattle.dg_rules.specs.Runs.{Played, Plays}
 use Rattle.dg_rules.specs.Golden.{GoldenNetwork, PlaysGolden}
 use Rattle.dg_rules.specs.Begins.{AreShaped, PlaysBoards}
 use Rattle.dg_script.specs.Items.{Item, place_behind, items_behind, items_of}
-use Rattle.dg_replay.specs.Items.{StartState, UsesBoards, Beginning, begin_by, begin_behind, beginning_of, with_link, with_narrow, lacking, no_beginning, next_items}
+use Rattle.dg_replay.specs.Items.{StartState, UsesBoards, Beginning, begin_by, begin_behind, beginning_of, lacking, next_items}
+use Rattle.dg_replay.specs.inner.Words.{with_link, with_narrow, no_beginning}
 use Rattle.dg_completion.proofs.GrowLemmas.{all_append}
 use Rattle.dg_replay.specs.Replayed.{RunsTo, item_played}
 use Rattle.dg_replay.proofs.ItemLemmas.{some_is}

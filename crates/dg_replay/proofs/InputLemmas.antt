@@ -5,7 +5,7 @@ use Rattle.std.specs.Str.Lines.{lines}
 use Rattle.dg_base.specs.Outside.{Takes}
 use Rattle.dg_nor.specs.Device.{Device}
 use Rattle.dg_object.specs.Object.{Row}
-use Rattle.dg_script.specs.LineReading.{Reading, HasNoEnd, IsLine, IsLastLine, Gives, IsAtEnd, IsTooLong}
+use Rattle.dg_lines.specs.LineReading.{Reading, HasNoEnd, IsLine, IsLastLine, Gives, IsAtEnd, IsTooLong}
 use Rattle.dg_script.specs.Places.{first_place}
 use Rattle.dg_script.specs.Script.{Script, script_from}
 use Rattle.dg_script.specs.Sizes.{most_used_bytes, most_kept}
@@ -24,7 +24,8 @@ use Rattle.dg_replay.specs.declared.halt.Halt.TheVariants.{ReadFault, TooLong, S
 use Rattle.dg_replay.specs.declared.player.Player.{Player}
 use Rattle.dg_replay.specs.declared.stop.Stop.{Stop}
 use Rattle.dg_replay.specs.Shown.{Saw}
-use Rattle.dg_replay.specs.Stages.{based_on, done_so_far, replay_state, Span, span, bytes_taken}
+use Rattle.dg_replay.specs.Stages.{based_on, done_so_far, replay_state, Span, span}
+use Rattle.dg_replay.specs.inner.Words.{bytes_taken}
 use Rattle.dg_replay.specs.declared.stop.Stop.TheVariants.{Memory, BadInput, WriteFault, FlashFault, TooMany, NoBoard, NoImage, NotAVolume}
 use Rattle.dg_replay.proofs.EndLemmas.{script_all, script_over, stop_ending, bounds_done}
 use Rattle.dg_replay.proofs.FollowingLemmas.{TextPlays}

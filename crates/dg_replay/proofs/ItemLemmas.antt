@@ -23,7 +23,8 @@ use Rattle.dg_rules.specs.Steps.{WorldStep, DeclareStep, StepDoes, Ended, declar
 use Rattle.dg_rules.specs.Runs.{Played, Plays, ItemStep}
 use Rattle.dg_rules.proofs.SiteLemmas.{site_count}
 use Rattle.dg_script.specs.Items.{Item, Declares, Applies, place_behind, item_by, items_behind, items_of}
-use Rattle.dg_replay.specs.Items.{StartState, Beginning, begin_by, begin_behind, beginning_of, no_beginning, with_link, with_narrow, is_event, events_among}
+use Rattle.dg_replay.specs.Items.{StartState, Beginning, begin_by, begin_behind, beginning_of, is_event, events_among}
+use Rattle.dg_replay.specs.inner.Words.{no_beginning, with_link, with_narrow}
 use Rattle.dg_replay.specs.Replayed.{RunsTo, item_played, played_text}
 use Rattle.dg_replay.specs.Playing.{ItemsRun}
 

@@ -24,7 +24,8 @@ use Rattle.dg_replay.specs.Untouched.{IsElsewhere, FormatsNone}
 use Rattle.dg_replay.specs.Replaying.{PlayedUpTo, HasFew, ReportedBefore, IsLeft, StopsThere, StopsInTaken}
 use Rattle.dg_replay.specs.declared.stop.Stop.{Stop}
 use Rattle.dg_replay.specs.Shown.{Saw}
-use Rattle.dg_replay.specs.Stages.{span, bytes_taken}
+use Rattle.dg_replay.specs.Stages.{span}
+use Rattle.dg_replay.specs.inner.Words.{bytes_taken}
 use Rattle.dg_replay.specs.declared.stop.Stop.TheVariants.{Memory, BadInput, WriteFault, FlashFault, TooMany, NoBoard, NoImage, NotAVolume}
 use Rattle.dg_replay.proofs.FrontLemmas.{front_begins}
 use Rattle.dg_replay.proofs.GoldenRuns.{all_front}

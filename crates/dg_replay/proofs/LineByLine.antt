@@ -7,7 +7,7 @@ use Rattle.dg_base.proofs.LineLemmas.{lines-ended}
 use Rattle.dg_nor.specs.Device.{Device}
 use Rattle.dg_rules.specs.World.{World}
 use Rattle.dg_object.specs.Object.{Row}
-use Rattle.dg_script.specs.LineReading.{HasNoEnd, IsLine}
+use Rattle.dg_lines.specs.LineReading.{HasNoEnd, IsLine}
 use Rattle.dg_script.specs.Places.{first_place}
 use Rattle.dg_script.specs.Script.{Script, script_from}
 use Rattle.dg_script.specs.declared.line.Line.{Line}

@@ -9,7 +9,7 @@ use Rattle.dg_base.proofs.OutsideLemmas.{Takes-nil, Takes-join}
 use Rattle.dg_nor.specs.Device.{Device}
 use Rattle.dg_object.specs.Object.{Row}
 use Rattle.dg_rules.specs.World.{World}
-use Rattle.dg_script.specs.LineReading.{Reading, HasNoEnd, IsLine, IsLastLine, Gives}
+use Rattle.dg_lines.specs.LineReading.{Reading, HasNoEnd, IsLine, IsLastLine, Gives}
 use Rattle.dg_script.specs.Places.{first_place}
 use Rattle.dg_script.specs.Script.{Script, script_from}
 use Rattle.dg_script.specs.Sizes.{most_used_bytes}
@@ -22,7 +22,8 @@ use Rattle.dg_replay.specs.Replaying.{TextAnswer, Reached, InputAnswer}
 use Rattle.dg_replay.specs.declared.halt.Halt.{Halt}
 use Rattle.dg_replay.specs.declared.player.Player.{Player}
 use Rattle.dg_replay.specs.Shown.{Saw}
-use Rattle.dg_replay.specs.Stages.{based_on, done_so_far, ReplayState, replay_state, line_read, Span, span, bytes_taken, failures}
+use Rattle.dg_replay.specs.Stages.{based_on, done_so_far, ReplayState, replay_state, line_read, Span, span, failures}
+use Rattle.dg_replay.specs.inner.Words.{bytes_taken}
 use Rattle.dg_replay.specs.declared.stop.Stop.{Stop}
 use Rattle.dg_replay.specs.Untouched.{TextKeepsBytes}
 use Rattle.dg_replay.proofs.EndLemmas.{script_all}

@@ -3,7 +3,7 @@ use Rattle.std.proofs.Common.{◌≡◌, ◌≢◌, ℕ, zero, suc, ◌+◌, ◌
 use Rattle.std.specs.Prelude.{if◌then◌else◌}
 use Rattle.std.proofs.lemmas.Bool.{ne_eqb}
 use Rattle.std.proofs.lemmas.List.Elements.{All-head, All-tail}
-use Rattle.dg_script.specs.LineReading.{HasNoEnd, IsLine}
+use Rattle.dg_lines.specs.LineReading.{HasNoEnd, IsLine}
 use Rattle.dg_replay.specs.Near.{behind_line, behind_lines, FewBytesBehind}
 
 -- one more line

@@ -20,13 +20,15 @@ use Rattle.dg_replay.specs.Ending.{Ending, Ends, Over, ending_from, ending_of, e
 use Rattle.dg_replay.specs.Around.{Around, around}
 use Rattle.dg_replay.specs.Promised.{Headline}
 use Rattle.dg_replay.specs.Done.{IsUnfailed, ReplaysAll, ReplayDone}
-use Rattle.dg_replay.specs.Replayed.{Progress, IsSeen, RunsTo, played_text, Wrote, BoardsLeft, NoVolumeThere, NoImageThere, IsComplete, AreVolumes, IsSettled, AreWhole, AllWhole, NextIsWhole, RestsOnTaken, IsCaused, Replayed}
+use Rattle.dg_replay.specs.Replayed.{Progress, IsSeen, RunsTo, played_text, Wrote, BoardsLeft, NoVolumeThere, NoImageThere, AreVolumes, IsSettled, AreWhole, AllWhole, NextIsWhole, RestsOnTaken, IsCaused, Replayed}
+use Rattle.dg_replay.specs.inner.Words.{IsComplete}
 use Rattle.dg_replay.specs.Replaying.{Reached, PlayedUpTo, InputAnswer, StopEnds, EndsWith, IsLeft, ScriptReplayed}
 use Rattle.dg_replay.specs.declared.halt.Halt.{Halt}
 use Rattle.dg_replay.specs.declared.halt.Halt.TheVariants as halts
 use Rattle.dg_replay.specs.declared.stop.Stop.{Stop}
 use Rattle.dg_replay.specs.Shown.{Saw}
-use Rattle.dg_replay.specs.Stages.{span, bytes_taken, failures}
+use Rattle.dg_replay.specs.Stages.{span, failures}
+use Rattle.dg_replay.specs.inner.Words.{bytes_taken}
 use Rattle.dg_replay.specs.declared.player.Player.{Player}
 use Rattle.dg_replay.proofs.EndLemmas.{over_not, is_over-true, over_ends, stopped_ends, in_limits}
 use Rattle.dg_replay.proofs.TakenLemmas.{over_settled, over_done, none_whole, stopped_of_script, known_in_script}

@@ -12,7 +12,8 @@ use Rattle.dg_script.specs.declared.line.Line.{Line}
 use Rattle.dg_script.specs.declared.line.Line.TheVariants.{Nothing, Motes, Golden, Boards, Link, Narrow, Image, Cut, Happens as EventLine, Round, Sweeps}
 use Rattle.dg_rules.specs.Runs.{Played, Plays}
 use Rattle.dg_rules.specs.World.{World, Site, first_world, off_site}
-use Rattle.dg_replay.specs.Items.{StartState, Beginning, begin_by, begin_behind, beginning_of, no_beginning, with_link, with_narrow, is_event, events_among}
+use Rattle.dg_replay.specs.Items.{StartState, Beginning, begin_by, begin_behind, beginning_of, is_event, events_among}
+use Rattle.dg_replay.specs.inner.Words.{no_beginning, with_link, with_narrow}
 use Rattle.dg_replay.specs.Replayed.{RunsTo, item_played}
 use Rattle.dg_replay.specs.Playing.{IsDeclaration}
 use Rattle.dg_replay.specs.Shown.{Saw, events_played, stores_in, LeadTo, StaysSeen, Shows}

@@ -29,7 +29,8 @@ use Rattle.dg_world.specs.Counts.{NoneRose}
 use Rattle.dg_world.specs.Formatted.{FirstBoards, FormatStops}
 use Rattle.dg_world.specs.declared.format.FormatStopped.{FormatStopped}
 use Rattle.dg_replay.specs.Replayed.{RunsTo}
-use Rattle.dg_replay.specs.Items.{motes_in, beginning_of, golden_world, with_link, with_narrow}
+use Rattle.dg_replay.specs.Items.{motes_in, beginning_of}
+use Rattle.dg_replay.specs.inner.Words.{golden_world, with_link, with_narrow}
 use Rattle.dg_world.specs.Boards.{BoardsEndure}
 use Rattle.dg_replay.specs.Boards.{StoppedIn}
 use Rattle.dg_replay.specs.Playing.{Counted, InWorld, Stood, PlayedLine, LacksBoards, PlayedAs, mount_stop}

@@ -24,7 +24,8 @@ use Rattle.dg_rules.specs.World.{World, Site, first_world}
 use Rattle.dg_rules.specs.Begins.{AreShaped}
 use Rattle.dg_world.specs.Mounted.{StandFor}
 use Rattle.dg_replay.specs.Boards.{BoardsStand}
-use Rattle.dg_replay.specs.Items.{StartState, no_start_state, Beginning, begin_by, beginning_of, motes_in, no_beginning, golden_world, with_link, with_narrow, is_boards, UsesBoards, begin_behind}
+use Rattle.dg_replay.specs.Items.{StartState, no_start_state, Beginning, begin_by, beginning_of, motes_in, is_boards, UsesBoards, begin_behind}
+use Rattle.dg_replay.specs.inner.Words.{no_beginning, golden_world, with_link, with_narrow}
 use Rattle.dg_replay.specs.Replayed.{IsGround, RunsTo, item_played, played_text}
 use Rattle.dg_replay.specs.Playing.{IsDeclaration, Seated, InWorld, Joined, Stood, ItemsRun, ItemsBegun, LineRuns, LineBegun, Grounded}
 use Rattle.dg_replay.specs.Shown.{Saw, events_played, stores_in, StaysSeen, Shows}

@@ -7,7 +7,7 @@ use Rattle.std.proofs.lemmas.List.Elements.{All-head, All-tail}
 use Rattle.dg_nor.specs.Device.{Device}
 use Rattle.dg_object.specs.Object.{Row}
 use Rattle.dg_script.specs.Sizes.{most_used_bytes}
-use Rattle.dg_script.specs.LineReading.{HasNoEnd}
+use Rattle.dg_lines.specs.LineReading.{HasNoEnd}
 use Rattle.dg_script.specs.Places.{first_place}
 use Rattle.dg_script.specs.Script.{script_from}
 use Rattle.dg_replay.specs.Ending.{up_to, whole_lines, used}

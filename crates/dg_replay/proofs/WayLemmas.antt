@@ -10,7 +10,7 @@ use Rattle.dg_object.specs.Object.{Row}
 use Rattle.dg_rules.specs.World.{World}
 use Rattle.dg_words.specs.Counts.{Rose}
 use Rattle.dg_script.specs.Fitting.{FitsLine}
-use Rattle.dg_script.specs.LineReading.{Reading, NextAnswer}
+use Rattle.dg_lines.specs.LineReading.{Reading, NextAnswer}
 use Rattle.dg_script.specs.Lines.{line_of}
 use Rattle.dg_script.specs.Places.{place_after}
 use Rattle.dg_script.specs.Sizes.{most_used_bytes}
@@ -29,7 +29,8 @@ use Rattle.dg_replay.specs.declared.halt.Halt.TheVariants.{Stopped}
 use Rattle.dg_replay.specs.declared.player.Player.{Player}
 use Rattle.dg_replay.specs.declared.stop.Stop.{Stop}
 use Rattle.dg_replay.specs.Shown.{Saw, StaysSeen}
-use Rattle.dg_replay.specs.Stages.{Baseline, based_on, DoneSoFar, done_so_far, Told, told_so_far, boards_told, ReplayState, replay_state, span, bytes_taken, failures}
+use Rattle.dg_replay.specs.Stages.{Baseline, based_on, DoneSoFar, done_so_far, Told, told_so_far, boards_told, ReplayState, replay_state, span, failures}
+use Rattle.dg_replay.specs.inner.Words.{bytes_taken}
 use Rattle.dg_replay.specs.declared.stop.Stop.TheVariants.{Memory, WriteFault}
 use Rattle.dg_replay.specs.Untouched.{LineKeepsBytes}
 use Rattle.dg_replay.proofs.BytesLemmas.{text_keeps, text_same}

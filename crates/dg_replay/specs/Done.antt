@@ -9,7 +9,7 @@ use Rattle.dg_world.specs.Boards.{BoardStopped}
 use Rattle.dg_replay.specs.Items.{UsesBoards, motes_in}
 use Rattle.dg_replay.specs.Ending.{InLimits, script_of}
 use Rattle.dg_replay.specs.Around.{Around}
-use Rattle.dg_replay.specs.Replayed.{Replayed, IsComplete, AreVolumes}
+use Rattle.dg_replay.specs.Replayed.{Replayed, AreVolumes}
 use Rattle.dg_replay.specs.Promised.{Headline}
 
 -- These are all bytes of the source. They spell a script in its grammar and limits, there are boards for its motes, and no read,
@@ -27,7 +27,7 @@ pub record ReplaysAll (status : Status) (a b : Around) : Type 0 where
   pub golden : (bytes : List ℕ) → IsUnfailed bytes a b → (UsesBoards (script_of bytes).lines → ⊥) → (status ≡ Done)
       ⊎ (status ≡ Memory)
   pub boards : (bytes : List ℕ) → IsUnfailed bytes a b → AreVolumes (motes_in (script_of bytes).lines) a.boards
-      → IsComplete (UsesBoards (script_of bytes).lines) status
+      → (status ≡ Done) ⊎ ((status ≡ Memory) ⊎ ((status ≡ NoImage) × UsesBoards (script_of bytes).lines))
 
 -- What a replay did, and how it ended.
 pub record ReplayDone (status : Status) (a b : Around) : Type 0 where

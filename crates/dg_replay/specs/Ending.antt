@@ -54,9 +54,6 @@ by_fault over (Some at) = FaultAt at.0 at.1
 by_fault true None = Over
 by_fault false None = Ends
 
-abbrev pub by_events : Bool → Script → Ending
-by_events over script = if nat_lt most_events (events_in script.lines) then TooManyEvents else by_fault over script.fault
-
 abbrev pub by_boards : Option ℕ → ℕ → Ending → Ending
 by_boards None boards other = other
 by_boards (Some motes) boards other = NoBoards motes boards
@@ -64,7 +61,9 @@ by_boards (Some motes) boards other = NoBoards motes boards
 -- A script with more motes than there are boards ends at its `motes` line. Otherwise it ends at the event after 1,000,000,
 -- otherwise at its first fault, and otherwise by its length if its input is too long.
 abbrev pub ending_from : ℕ → Bool → Script → Ending
-ending_from boards over script = by_boards (lacking boards script.lines) boards (by_events over script)
+ending_from boards over script =
+    by_boards (lacking boards script.lines) boards
+    (if nat_lt most_events (events_in script.lines) then TooManyEvents else by_fault over script.fault)
 
 abbrev pub ending_of : ℕ → List ℕ → Ending
 ending_of boards input = ending_from boards (has_unused_bytes input) (script_of input)

@@ -1,9 +1,9 @@
 -- The result of reading the next line and playing it (docs/ARCHITECTURE.md, "The way of a script line").
 use Rattle.std.specs.Prelude.{◌≡◌, ℕ, ◌+◌, ◌≤◌, Bool, true, false, List, length, Result, Ok, Err}
-use Rattle.dg_script.specs.LineReading.{Reading, most_kept, most_used_bytes, HasNoEnd, FirstLine, Gives, IsAtEnd, IsTooLong}
+use Rattle.dg_lines.specs.LineReading.{Reading, most_kept, most_used_bytes, HasNoEnd, FirstLine, Gives, IsAtEnd, IsTooLong}
 use Rattle.dg_script.specs.declared.fault.LineFault.TheVariants as line_fault
-use Rattle.dg_script.specs.declared.line_reader.ReadStop.{ReadStop}
-use Rattle.dg_script.specs.declared.line_reader.ReadStop.TheVariants as read_stop
+use Rattle.dg_lines.specs.declared.line_reader.ReadStop.{ReadStop}
+use Rattle.dg_lines.specs.declared.line_reader.ReadStop.TheVariants as read_stop
 use Rattle.dg_replay.specs.Shown.{StaysSeen}
 use Rattle.dg_replay.specs.Stages.{BytesTaken, ReplayState}
 use Rattle.dg_replay.specs.declared.halt.Halt.{Halt}

@@ -14,3 +14,4 @@ pub mod Done
 pub mod Playing
 pub mod Replaying
 pub mod Following
+pub mod inner

@@ -35,25 +35,6 @@ pub record FramesAreHonest {table : List Row} {script : Script} {c : Progress ta
   pub agree : UsesBoards c.done → StoresAgree c.ground.table c.ground.stores
   pub hold : UsesBoards c.done → AllByRecursion (HoldsToThen c.ground.table) f.played
 
--- without a `boards` line, lines that bring no frame from outside meet these premises
-abbrev pub HonestWithoutFrames : {table : List Row} {script : Script} → Progress table script → Type 0
-HonestWithoutFrames c = AllByRecursion IsNoFrame c.done → (UsesBoards c.done → ⊥) → (f : PlayedFirst c) → FramesAreHonest f
-
--- If the next event is honest too, each store that the chip may stand for, wherever a stop comes in it, agrees with the table
--- after it.
-abbrev pub HalvesAgree : {table : List Row} {script : Script} {c : Progress table script} → PlayedFirst c → Type 0
-HalvesAgree {c = c} f = (w : World) (step : Step) (reported : Bool) (more : List Item) → f.last ≡ Some w
-    → map item_played f.rest ++ c.left ≡ Applies step reported ∷ more → HonestEvent w.table step.event
-    → (UsesBoards c.done → HoldsTo c.ground.table w step.event) → StopsAgree w step.event
-
--- if it ends with a rest, pages travelled along the links as in a pipeline, by as many sweeps as the rest has
-abbrev pub RestsFillThePipeline : {table : List Row} {script : Script} {c : Progress table script} → PlayedFirst c → Type 0
-RestsFillThePipeline f = (w v : World) (t : ℕ) → f.last ≡ Some v → EndsInRest f.played w t v → PagesCome w t v
-
--- if it ends with a rest of enough sweeps, every mote keeps the newest version of each image whole
-abbrev pub RestsComplete : {table : List Row} {script : Script} {c : Progress table script} → PlayedFirst c → Type 0
-RestsComplete f = (w v : World) (n k : ℕ) → f.last ≡ Some v → EndsInRest f.played w n v → IsEnough w k → k ≤ n → KeepsNewest v
-
 -- What holds of what was played first, with honest frames.
 pub record HonestRun {table : List Row} {script : Script} {c : Progress table script} (f : PlayedFirst c) : Type 0 where
   -- each step is legal after those before it
@@ -66,18 +47,20 @@ pub record HonestRun {table : List Row} {script : Script} {c : Progress table sc
   -- Every chip, also one that a cut left half done, every mote that is on and every frame that was sent agrees with the table:
   -- after each item, and in the last world.
   pub agrees : AllByRecursion LeavesAgreement f.played × IfSome f.last WorldAgrees
-  -- the store of each half-done chip agrees too, wherever a stop comes in the next event
-  pub halves : HalvesAgree f
-  -- Each round that was played between two neighbours, both wide or both narrow, brought the second one a page of the least image
-  -- in which the first was ahead. Both were on, and had room for three commits at its end, and no power was cut in it. The 50
-  -- ticks with which a round begins brought their mote to rest.
+  -- the store of each half-done chip agrees too, wherever a stop comes in the next event, if that event is honest
+  pub halves : (w : World) (step : Step) (reported : Bool) (more : List Item) → f.last ≡ Some w
+      → map item_played f.rest ++ c.left ≡ Applies step reported ∷ more → HonestEvent w.table step.event
+      → (UsesBoards c.done → HoldsTo c.ground.table w step.event) → StopsAgree w step.event
+  -- Each round that was played between two neighbours, both wide or both narrow, brought the second one a page of the lowest
+  -- image in which the first was ahead. Both were on, and had room for three commits at its end, and no power was cut in it. The
+  -- 50 ticks with which a round begins brought their mote to rest.
   pub rounds : RoundsBring f.played
   -- Suppose it ends with an undisturbed rest of t sweeps, every mote is on and has room for three commits at its end, and all
   -- motes are wide, or all are narrow and no image above 3 has a row. If every smaller image was whole everywhere, a mote within
   -- j links of a whole image then has t + 1 - j pages of it, or all.
-  pub pipeline : RestsFillThePipeline f
+  pub pipeline : (w v : World) (t : ℕ) → f.last ≡ Some v → EndsInRest f.played w t v → PagesCome w t v
   -- If such a rest has enough sweeps, every mote keeps the newest version of every image whole.
-  pub completes : RestsComplete f
+  pub completes : (w v : World) (n k : ℕ) → f.last ≡ Some v → EndsInRest f.played w n v → IsEnough w k → k ≤ n → KeepsNewest v
 
 -- After each item, and in the last world, every store is consistent. What starts is golden, or an object that fits its own
 -- descriptor. And wherever a stop comes in the next event, each store that the chip may then stand for is consistent.
@@ -88,18 +71,12 @@ pub record StaysConsistent (golden : Row) (played : List Played) (last : Option 
   pub halves : (w : World) (step : Step) (reported : Bool) (more : List Item) → last ≡ Some w
       → left ≡ Applies step reported ∷ more → StopsConsistent golden w step.event
 
--- Whatever bytes its frames carry: golden is the one row of the table with which the run begins
-abbrev pub StoresStayConsistent : {table : List Row} {script : Script} → Progress table script → Type 0
-StoresStayConsistent c = (UsesBoards c.done → ⊥) → (golden : Row) (w : World) → (beginning_of c.ground c.done).world ≡ Some w
-    → w.table ≡ golden ∷ [] → StaysConsistent golden c.played c.last c.left
-
--- ---- the headline
-
 -- All parts of it, for a script that was played so far.
 pub record Headline {table : List Row} {script : Script} (c : Progress table script) : Type 0 where
   pub honest : (f : PlayedFirst c) → FramesAreHonest f → HonestRun f
   -- without a `boards` line, lines that bring no frame from outside meet these premises
-  pub frames : HonestWithoutFrames c
+  pub frames : AllByRecursion IsNoFrame c.done → (UsesBoards c.done → ⊥) → (f : PlayedFirst c) → FramesAreHonest f
   -- Whatever bytes its frames carry, every store is consistent: after each item, in the last world, and wherever a stop comes in
   -- the next event. What starts is golden byte for byte, or an object that fits its own descriptor.
-  pub consistent : StoresStayConsistent c
+  pub consistent : (UsesBoards c.done → ⊥) → (golden : Row) (w : World) → (beginning_of c.ground c.done).world ≡ Some w
+      → w.table ≡ golden ∷ [] → StaysConsistent golden c.played c.last c.left

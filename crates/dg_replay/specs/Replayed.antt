@@ -8,6 +8,7 @@ use Rattle.dg_words.specs.Counts.{Rose}
 use Rattle.dg_base.specs.Outside.{Takes, Puts, AtEnd}
 use Rattle.dg_base.specs.declared.answers.Status.{Status}
 use Rattle.dg_base.specs.declared.answers.Status.TheVariants.{Done, Memory, BadInput, ReadFault, WriteFault, FlashFault}
+use Rattle.dg_base.specs.declared.answers.Status.TheVariants.{Usage, Refused, LinkFault}
 use Rattle.dg_base.specs.declared.answers.Status.TheVariants.{NotAVolume, TooLong, TooMany, NoBoard, NoImage}
 use Rattle.dg_nor.specs.Device.{Device}
 use Rattle.dg_script.specs.Report.{report_text}
@@ -33,8 +34,8 @@ use Rattle.dg_replay.specs.Boards.{BoardsStand, StoppedIn, EventNext, InSome, No
 use Rattle.dg_replay.specs.Items.{StartState, UsesBoards, beginning_of, motes_in, next_items, events_among}
 use Rattle.dg_replay.specs.Around.{Around}
 use Rattle.dg_replay.specs.Shown.{Saw, stores_in, events_played}
-use Rattle.dg_replay.specs.Stages.{BytesTaken, bytes_taken}
-use Rattle.dg_replay.specs.Ending.{Ending, Ends, NoBoards, TooManyEvents, FaultAt, Over, InBounds, whole_lines, ending_of}
+use Rattle.dg_replay.specs.Stages.{BytesTaken}
+use Rattle.dg_replay.specs.Ending.{Ending, Ends, NoBoards, TooManyEvents, FaultAt, InBounds, whole_lines, ending_of}
 use Rattle.dg_replay.specs.Ending.{ending_line, ending_status, script_of}
 
 abbrev pub item_played : Played → Item
@@ -85,10 +86,7 @@ IsSeen saw c = saw (stores_in (beginning_of c.ground c.done).world) (events_play
 abbrev pub closing : Ending → Option World → List ℕ
 closing Ends (Some w) = report_text (final_lines w)
 closing Ends None = []
-closing (NoBoards motes boards) w = ending_line (NoBoards motes boards)
-closing TooManyEvents w = ending_line TooManyEvents
-closing (FaultAt line fault) w = ending_line (FaultAt line fault)
-closing Over w = ending_line Over
+closing ending w = ending_line ending
 
 -- a million events were played, and the next item is an event
 pub record AtTooMany (left : List Item) (played : List Played) : Type 0 where
@@ -100,9 +98,7 @@ pub record AtTooMany (left : List Item) (played : List Played) : Type 0 where
 abbrev pub ReachesEnding : {table : List Row} {script : Script} → Ending → Progress table script → Type 0
 ReachesEnding (NoBoards motes boards) c = (more : List Line) × (c.rest ≡ Motes motes ∷ more)
 ReachesEnding TooManyEvents c = AtTooMany c.left c.played
-ReachesEnding Ends c = c.rest ≡ []
-ReachesEnding (FaultAt line fault) c = c.rest ≡ []
-ReachesEnding Over c = c.rest ≡ []
+ReachesEnding ending c = c.rest ≡ []
 
 -- the report of the script, up to its end
 pub record IsWholeReport {table : List Row} {script : Script} (ending : Ending) (c : Progress table script)
@@ -143,18 +139,16 @@ StopsAt ending (line ∷ rest) = UsesBoard line
 
 -- what was written, by the status
 abbrev pub Wrote : {table : List Row} {script : Script} → Status → Ending → Progress table script → List ℕ → Type 0
-Wrote Done ending c text = IsWholeReport ending c text
-Wrote BadInput ending c text = IsWholeReport ending c text
-Wrote TooLong ending c text = IsWholeReport ending c text
-Wrote TooMany ending c text = IsWholeReport ending c text
-Wrote NoBoard ending c text = IsWholeReport ending c text
 Wrote Memory ending c text = IsPrefixOfLines c.played text
 Wrote WriteFault ending c text = IsPrefixOfReport ending c text
 Wrote FlashFault ending c text = (text ≡ played_text c.played) × StopsAt ending c.rest
 Wrote ReadFault ending c text = (text ≡ played_text c.played) × (c.begun ≡ [])
 Wrote NotAVolume ending c text = text ≡ played_text c.played ++ no_volume_line
 Wrote NoImage ending c text = text ≡ played_text c.played ++ no_image_line
-Wrote _ ending c text = ⊥
+Wrote Usage ending c text = ⊥
+Wrote Refused ending c text = ⊥
+Wrote LinkFault ending c text = ⊥
+Wrote status ending c text = IsWholeReport ending c text
 
 -- a board stopped at the point to which the replay came
 abbrev pub BoardStoppedThere : {table : List Row} {script : Script} → Progress table script → (old new : List Device) → Type 0
@@ -196,11 +190,6 @@ IsCaused FlashFault ending r w b n i = b
 IsCaused NotAVolume ending r w b n i = n
 IsCaused NoImage ending r w b n i = i
 IsCaused status ending r w b n i = status ≡ ending_status ending
-
--- the status of a replay of a script in its limits whose boards do not stop: it is done, or memory ran out, or boards that are
--- used as they are lack an image
-abbrev pub IsComplete : (uses : Type 0) → Status → Type 0
-IsComplete uses status = (status ≡ Done) ⊎ ((status ≡ Memory) ⊎ ((status ≡ NoImage) × uses))
 
 -- the boards of this many motes are volumes
 abbrev pub AreVolumes : ℕ → List Device → Type 0
@@ -248,17 +237,13 @@ RestsOnTaken NotAVolume boards taken c text = taken.at_end ⊎ NextIsWhole taken
 RestsOnTaken NoImage boards taken c text = taken.at_end ⊎ NextIsWhole taken.bytes c.done c.rest
 RestsOnTaken status boards taken c text = taken.at_end ⊎ IsSettled boards taken.bytes
 
--- what is reported of this many lines, the first of those that were done
-abbrev pub report_of_lines : {table : List Row} {script : Script} → ℕ → Progress table script → List ℕ
-report_of_lines n c = played_text (take (length (items_of (take n c.done))) c.played)
-
 -- All that is reported of some first lines was written, and what was taken of the input ends near the line after them.
 pub record ReportedAndNear {table : List Row} {script : Script} (input : List ℕ) (c : Progress table script)
     (text : List ℕ) : Type 0 where
   pub lines : ℕ
   pub within : lines ≤ length c.done
   pub more : List ℕ
-  pub reported : text ≡ report_of_lines lines c ++ more
+  pub reported : text ≡ played_text (take (length (items_of (take lines c.done))) c.played) ++ more
   pub near : FewBytesBehind (lines + 1) input
 
 -- what was taken ends near the line whose fault is the ending
@@ -295,7 +280,7 @@ pub record Replayed (table : List Row) (status : Status) (a b : Around) : Type 0
   pub text : List ℕ
   pub written : Puts a.written b.written text
   pub report : Wrote status (ending_of (length a.boards) input) came text
-  pub read : RestsOnTaken status (length a.boards) (bytes_taken input (AtEnd b.left)) came text
+  pub read : RestsOnTaken status (length a.boards) (record { bytes = input; at_end = AtEnd b.left }) came text
   pub near : ReadsNear status (ending_of (length a.boards) input) input came text
   -- nothing after the ending was done
   pub limits : InBounds (length a.boards) came.done (map item_played came.played)

@@ -28,7 +28,8 @@ use Rattle.dg_replay.specs.Near.{behind_lines, FewBytesBehind}
 use Rattle.dg_replay.specs.Untouched.{KeepBytes, FormatsNone}
 use Rattle.dg_replay.specs.Replayed.{Progress, ReachesEnding, AtTooMany, closing, Wrote, BoardsLeft, BoardStoppedThere, IsCaused}
 use Rattle.dg_replay.specs.Replayed.{Untouched, IsSeen}
-use Rattle.dg_replay.specs.Replayed.{RunsTo, item_played, played_text, report_of_lines, IsSettled, AreWhole, AllWhole}
+use Rattle.dg_replay.specs.Replayed.{RunsTo, item_played, played_text, IsSettled, AreWhole, AllWhole}
+use Rattle.dg_replay.specs.inner.Words.{report_of_lines}
 use Rattle.dg_replay.specs.Replayed.{NextIsWhole}
 use Rattle.dg_replay.specs.Replayed.{DoneIsWhole, RestsOnTaken, ReadsNear, NoVolumeThere, NoImageThere, no_volume_line}
 use Rattle.dg_replay.specs.Replayed.{no_image_line}

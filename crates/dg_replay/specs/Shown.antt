@@ -8,7 +8,7 @@ use Rattle.dg_object.specs.Object.{Row}
 use Rattle.dg_volume.specs.Shaped.{IsShaped}
 use Rattle.dg_volume.specs.Stands.{Stands}
 use Rattle.dg_volume.specs.Store.{Store, fresh}
-use Rattle.dg_script.specs.Items.{Item, Applies}
+use Rattle.dg_script.specs.Items.{Applies}
 use Rattle.dg_rules.specs.Begins.{store_of}
 use Rattle.dg_rules.specs.Runs.{Played, Plays, ItemStep}
 use Rattle.dg_rules.specs.Sizes.{most_motes, most_events}

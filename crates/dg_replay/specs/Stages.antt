@@ -96,9 +96,6 @@ pub record BytesTaken : Type 1 where
   pub bytes : List ℕ
   pub at_end : Type 0
 
-abbrev pub bytes_taken : (bytes : List ℕ) (at_end : Type 0) → BytesTaken
-bytes_taken bytes at_end = record { bytes = bytes; at_end = at_end }
-
 -- Whether a read failed, and whether a write failed.
 pub record Failures : Type 1 where
   pub read : Type 0

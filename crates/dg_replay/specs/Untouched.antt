@@ -1,19 +1,13 @@
 -- Boards that keep their very bytes (docs/PROMISES.md, "The report and what it tells").
-use Rattle.std.specs.Prelude.{◌≡◌, ◌≢◌, ℕ, List, slice_get, Option, option_map, Ok}
+use Rattle.std.specs.Prelude.{◌≡◌, ◌≢◌, ℕ, List, slice_get, option_map, Ok}
 use Rattle.std.specs.List.{AllByRecursion}
 use Rattle.dg_nor.specs.Device.{Device}
 use Rattle.dg_rules.specs.Events.{mote_of}
 use Rattle.dg_script.specs.Items.{Item, Declares, Applies, item_by}
 use Rattle.dg_script.specs.Lines.{line_of}
 use Rattle.dg_script.specs.declared.line.Line.{Line}
-use Rattle.dg_script.specs.declared.line.Line.TheVariants.{Nothing, Motes, Golden, Boards, Link, Narrow, Image, Cut}
-use Rattle.dg_script.specs.declared.line.Line.TheVariants.{Happens as EventLine}
-use Rattle.dg_script.specs.declared.line.Line.TheVariants.{Round, Sweeps}
+use Rattle.dg_script.specs.declared.line.Line.TheVariants.{Golden}
 use Rattle.dg_script.specs.declared.place.Place.{Place}
-
--- the bytes of a board, None if there is no such board
-abbrev pub image_at : ℕ → List Device → Option (List ℕ)
-image_at m boards = option_map (λ d. d.image) (slice_get boards m)
 
 -- an item is not an event at this mote
 abbrev pub IsElsewhere : ℕ → Item → Type 0
@@ -22,21 +16,13 @@ IsElsewhere m (Applies step reported) = mote_of step.event ≢ m
 
 -- The board of a mote at which none of these items is an event has its very bytes.
 abbrev pub KeepBytes : List Item → (old new : List Device) → Type 0
-KeepBytes items old new = (m : ℕ) → AllByRecursion (IsElsewhere m) items → image_at m new ≡ image_at m old
+KeepBytes items old new = (m : ℕ) → AllByRecursion (IsElsewhere m) items
+    → option_map (λ d. d.image) (slice_get new m) ≡ option_map (λ d. d.image) (slice_get old m)
 
 -- a line that formats no boards
 abbrev pub FormatsNone : Line → Type 0
-FormatsNone Nothing = Unit {0}
-FormatsNone (Motes n) = Unit {0}
 FormatsNone (Golden name used content) = ⊥
-FormatsNone Boards = Unit {0}
-FormatsNone (Link a b) = Unit {0}
-FormatsNone (Narrow m) = Unit {0}
-FormatsNone (Image image version name content) = Unit {0}
-FormatsNone (Cut c) = Unit {0}
-FormatsNone (EventLine event) = Unit {0}
-FormatsNone (Round a b) = Unit {0}
-FormatsNone (Sweeps n) = Unit {0}
+FormatsNone line = Unit {0}
 
 -- what is kept where this line is played or begun
 abbrev pub LineKeepsBytes : Place → Line → (old new : List Device) → Type 0

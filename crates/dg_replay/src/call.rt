@@ -11,42 +11,23 @@ use crate::finish::end_with;
 use crate::following::play_lines;
 use crate::halt::Halt;
 use crate::laws::replays_keep_the_rules;
-use crate::watching::{Unwatched, Watcher};
+use crate::watching::Watcher;
 use dg_base::{Sink, Source, Status};
+use dg_lines::LineReader;
 use dg_mote::a_mote_buffers_little;
 use dg_nor::Nor;
-use dg_script::LineReader;
 use std::alloc::Global;
 
 /// Replays the script that `input` spells over the boards, and writes the report to `out`. A status other than [`Status::Done`]
-/// writes its line last, if it has one.
+/// writes its line last, if it has one. `watcher` is shown what is played: if it had seen nothing before, it saw exactly the
+/// events that were played, however the replay ends.
 ///
 /// The input is read line by line, and what a line reports is written before the next one is asked for: no more than
 /// 300,002 bytes are taken after the line that is played.
 ///
 /// From the `golden` or `boards` line on the boards of the script's motes are used, and no others. No more than a million events
 /// are played, and no more than 16,777,216 bytes of the input are used.
-pub fn replay<S: Source, K: Sink, N: Nor>(
-    alloc: Global,
-    input: &mut S,
-    out: &mut K,
-    boards: &mut Vec<N>,
-) -> Status
-    ensures done { ReplayDone result (around (S.left input.old) (S.faults input.old) (K.written out.old) (K.faults out.old)
-        (map N.device boards.old.items))
-        (around (S.left input.new) (S.faults input.new) (K.written out.new) (K.faults out.new) (map N.device boards.new.items)) }
-    // The arrays of bytes that are alive at once in a mote's call have no more than 256 bytes in all. The value of a mote holds
-    // no array of bytes except the outbox and its sets.
-    ensures buffers { BuffersFit × ValuesAreSmall }
-    ensures reads { S.faults input.old ≤ S.faults input.new }
-    ensures writes { K.faults out.old ≤ K.faults out.new }
-{
-    replay_watched(alloc, input, out, boards, &mut Unwatched)
-}
-
-/// The same, and `watcher` is shown what is played: if it had seen nothing before, it saw exactly the events that were played,
-/// however the replay ends.
-pub fn replay_watched<S: Source, K: Sink, N: Nor, W: Watcher<N>>(
+pub fn replay<S: Source, K: Sink, N: Nor, W: Watcher<N>>(
     alloc: Global,
     input: &mut S,
     out: &mut K,

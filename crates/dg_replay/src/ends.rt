@@ -9,7 +9,8 @@ ghost use Rattle.dg_replay.specs.Ending.{ending_from};
 ghost use Rattle.dg_replay.specs.Near.{behind_lines};
 ghost use Rattle.dg_replay.specs.Playing.{Ready};
 ghost use Rattle.dg_replay.specs.Replaying.{StopEnds, Reached, ScriptReplayed, unseen, seen_of};
-ghost use Rattle.dg_replay.specs.Stages.{span, bytes_taken, failures};
+ghost use Rattle.dg_replay.specs.Stages.{span, failures};
+ghost use Rattle.dg_replay.specs.inner.Words.{bytes_taken};
 
 use crate::finish::{end_at_line, end_with, end_without_boards, finish};
 use crate::player::Player;

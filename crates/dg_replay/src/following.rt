@@ -6,7 +6,8 @@ ghost use Rattle.dg_object.specs.Object.{Row};
 ghost use Rattle.dg_replay.specs.Following.{HaltedAs, NextPlayed, AllAsBefore};
 ghost use Rattle.dg_replay.specs.Playing.{Stood, Ready};
 ghost use Rattle.dg_replay.specs.Replaying.{TextAnswer, InputAnswer};
-ghost use Rattle.dg_replay.specs.Stages.{Baseline, DoneSoFar, replay_state, line_read, span, bytes_taken, failures};
+ghost use Rattle.dg_replay.specs.Stages.{Baseline, DoneSoFar, replay_state, line_read, span, failures};
+ghost use Rattle.dg_replay.specs.inner.Words.{bytes_taken};
 ghost use Rattle.dg_replay.specs.Untouched.{TextKeepsBytes};
 
 use crate::halt::Halt;
@@ -16,9 +17,10 @@ use crate::player::{Player, play_line};
 use crate::stop::Stop;
 use crate::watching::Watcher;
 use dg_base::{Sink, Source};
+use dg_lines::{LineReader, ReadStop};
 use dg_nor::Nor;
 use dg_rules::scripts_with_golden;
-use dg_script::{LineFault, LineReader, ReadStop};
+use dg_script::LineFault;
 use std::alloc::{AllocError, Global};
 
 /// Why a replay ends at a line that could not be read.

@@ -17,8 +17,9 @@ ghost use Rattle.dg_replay.specs.Untouched.{KeepBytes};
 use crate::stop::Stop;
 use crate::watching::Watcher;
 use dg_base::{Bytes, Cut, Event};
+use dg_lines::write_report;
 use dg_nor::Nor;
-use dg_script::{Report, write_report};
+use dg_script::Report;
 use dg_world::{DeclareFault, World, WorldFault};
 use std::alloc::AllocError;
 

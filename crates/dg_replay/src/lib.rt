@@ -17,6 +17,6 @@ mod rounds;
 mod stop;
 mod watching;
 
-pub use call::{replay, replay_watched};
+pub use call::replay;
 pub use laws::{first_lines_are_read_the_same, replays_keep_the_rules, whole_lines_are_longest};
 pub use watching::{Unwatched, Watcher};

@@ -6,7 +6,7 @@ ghost use Rattle.dg_replay.specs.Replaying.{LineFound, NotFound, StopsAtLine, Be
 
 use crate::stop::Stop;
 use dg_base::{Sink, WriteFailed};
-use dg_script::{Line, LineFault, Place, read_line};
+use dg_script::{Line, LineFault, Place, plain_event, read_line, what_is_spelled_fits};
 use std::alloc::Global;
 
 /// Writes a piece. It is not inlined: most lines report nothing.
@@ -65,13 +65,25 @@ fn stop_at(line: u32, fault: LineFault) -> Stop
     Stop::BadInput { line, fault }
 }
 
-/// Reads the text of a line that stands at this place.
+/// Reads the text of a line that stands at this place, word by word.
 #[inline(never)]
-pub fn next_line(alloc: Global, text: &[u8], number: u32, place: &Place) -> Result<Line, Stop>
+fn next_words(alloc: Global, text: &[u8], number: u32, place: &Place) -> Result<Line, Stop>
     ensures { MatchResult result (LineFound place.now text.now) (NotFound place.now text.now number) }
 {
     match read_line(alloc, text, place) {
         Ok(line) => Ok(line),
         Err(fault) => Err(stop_at(number, fault)),
+    }
+}
+
+/// Reads the text of a line that stands at this place. Most lines are events whose fields are all numbers.
+#[inline(never)]
+pub fn next_line(alloc: Global, text: &[u8], number: u32, place: &Place) -> Result<Line, Stop>
+    ensures { MatchResult result (LineFound place.now text.now) (NotFound place.now text.now number) }
+{
+    what_is_spelled_fits();
+    match plain_event(text, place) {
+        Some(event) => Ok(Line::Happens(event)),
+        None => next_words(alloc, text, number, place),
     }
 }

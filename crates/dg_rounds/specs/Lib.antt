@@ -2,4 +2,3 @@ pub mod Rounds
 pub mod Left
 pub mod LinkPaths
 pub mod Marks
-pub mod Turns

@@ -10,10 +10,6 @@ mod sweeps;
 
 pub use distances::{enough, levels};
 pub use rounds::{
-    PACE, ROUND_EVENTS, RoundEvents, RoundTurns, a_round_has_these_ticks, a_round_has_this_pace,
-    round,
+    PACE, ROUND_EVENTS, RoundEvents, a_round_has_these_ticks, a_round_has_this_pace, round,
 };
 pub use sweeps::{SweepEvents, sweep};
-
-#[cfg(test)]
-mod tests;

@@ -4,7 +4,6 @@ ghost use Rattle.dg_base.specs.declared.events.Event.{Event};
 ghost use Rattle.dg_object.specs.Sizes.{packets};
 ghost use Rattle.dg_rounds.specs.Rounds.{pace, drain_ticks, advert_ticks, round, paced, passed};
 ghost use Rattle.dg_rounds.specs.Left.{left_of_round};
-ghost use Rattle.dg_rounds.specs.Turns.{AreTurns};
 
 use dg_base::Event;
 
@@ -127,79 +126,5 @@ fn passed(from: u8, to: u8) -> Event
         to,
         dt: 0,
         word: 0,
-    }
-}
-
-/// The four events of which a round is made. Most of them come many times in it.
-#[derive(Debug, Drop)]
-pub struct RoundTurns {
-    /// A tick at the mote that brings the page.
-    pub(crate) first: Event,
-    /// A tick at the mote that takes it.
-    pub(crate) second: Event,
-    /// The second mote hears the last frame of the first.
-    pub(crate) there: Event,
-    /// The first mote hears the last frame of the second.
-    pub(crate) back: Event,
-}
-
-impl RoundTurns {
-    /// The events of a round between these motes.
-    pub fn new(a: u8, b: u8) -> RoundTurns
-        ensures { AreTurns result a b }
-    {
-        RoundTurns {
-            first: paced(a),
-            second: paced(b),
-            there: passed(a, b),
-            back: passed(b, a),
-        }
-    }
-
-    /// The event at a position of the round, counted from 0. It is borrowed: no event is copied.
-    pub fn at(&self, position: u8) -> &Event
-        requires { position < ROUND_EVENTS }
-        ensures { (a b : ℕ) (d : Event) → AreTurns self.now a b → slice_index_or (round a b) position d ≡ result.now }
-    {
-        // Most events of a round are its packets: their positions are checked first.
-        if position > ASKED {
-            return self.sending_at(position);
-        }
-        if position < REST {
-            return &self.first;
-        }
-        if position < 2 * REST {
-            return &self.second;
-        }
-        if position < 2 * REST + ADVERT {
-            return &self.first;
-        }
-        self.asking_at(position - (2 * REST + ADVERT))
-    }
-
-    /// The event at a position after the request: the first mote sends a packet, or the second hears it.
-    fn sending_at(&self, position: u8) -> &Event
-        requires asked { ASKED < position }
-        requires inside { position < ROUND_EVENTS }
-        ensures { (a b : ℕ) (d : Event) → AreTurns self.now a b → slice_index_or (round a b) position d ≡ result.now }
-    {
-        if position % 2 == 0 {
-            &self.first
-        } else {
-            &self.there
-        }
-    }
-
-    /// The event at a position of those by which a mote asks.
-    fn asking_at(&self, position: u8) -> &Event
-        requires { position < 3 }
-        ensures { (a b : ℕ) → AreTurns self.now a b
-            → result.now ≡ slice_index_or (passed a b ∷ paced b ∷ []) position (passed b a) }
-    {
-        match position {
-            0 => &self.there,
-            1 => &self.second,
-            _ => &self.back,
-        }
     }
 }

@@ -9,7 +9,7 @@ use Rattle.dg_volume.specs.Table.{row_at, IsTable}
 use Rattle.dg_volume.specs.Agreement.{Agrees}
 use Rattle.dg_mote.specs.Agreement.{IsHonest}
 use Rattle.dg_base.specs.declared.events.Event.{Event}
-use Rattle.dg_base.specs.declared.events.Event.TheVariants.{Tick, Hear, Last, Reset, Inject, Order as OrderEvent, Frame}
+use Rattle.dg_base.specs.declared.events.Event.TheVariants.{Inject, Frame}
 use Rattle.dg_script.specs.Items.{Item, Declares, Applies}
 use Rattle.dg_rules.specs.Sizes.{most_motes}
 use Rattle.dg_rules.specs.World.{World, no_site, first_world}
@@ -44,14 +44,10 @@ AreShaped stores = (m : ℕ) → m < length stores → IsShaped (store_of stores
 -- An event holds to a table under two conditions. A frame that it brings from outside is honest by the table of its moment. A row
 -- that it injects is this table's, if the rules take the injection and this table has its image version.
 abbrev pub HoldsTo : List Row → World → Event → Type 0
-HoldsTo table w (Tick mote dt word) = Unit {0}
-HoldsTo table w (Hear mote dt word frame) = Unit {0}
-HoldsTo table w (Last from to dt word) = Unit {0}
-HoldsTo table w (Reset mote dt word) = Unit {0}
 HoldsTo table w (Inject mote image version dt word) = IsTaken (does w (Inject mote image version dt word))
     → (row kept : Row) → row_at w.declared image version ≡ Some row → row_at table image version ≡ Some kept → kept ≡ row
-HoldsTo table w (OrderEvent mote number image version dt word) = Unit {0}
 HoldsTo table w (Frame mote dt word bytes) = IsHonest w.table bytes
+HoldsTo table w event = Unit {0}
 
 abbrev pub ItemHoldsTo : List Row → Item → World → Type 0
 ItemHoldsTo table (Declares row) w = Unit {0}

@@ -1,6 +1,6 @@
 -- What is reported of a chip that changed (docs/SCRIPTS.md, "The report").
 use Rattle.std.specs.Prelude.{ℕ, ◌-◌, ◌==◌, ◌&&◌, Bool, true, false, if◌then◌else◌, List, [], ◌∷◌, ◌++◌, length, not, Option}
-use Rattle.std.specs.Prelude.{Some, None}
+use Rattle.std.specs.Prelude.{Some, None, option_map}
 use Rattle.std.specs.List.{filter_map, flat_map, range_with_len}
 use Rattle.std.specs.FinSet as set
 use Rattle.dg_control.specs.declared.snapshot.Order.{Order}
@@ -25,12 +25,8 @@ abbrev pub same_held : Option Held → Held → Bool
 same_held None new = false
 same_held (Some old) new = (old.version == new.version) && (length old.complete == length new.complete)
 
-abbrev pub lost_change : ℕ → ℕ → Option Held → Option Report
-lost_change m i None = None
-lost_change m i (Some old) = Some (Lost m i)
-
 abbrev pub have_change : ℕ → ℕ → Option Held → Option Held → Option Report
-have_change m i old None = lost_change m i old
+have_change m i old None = option_map (λ h. Lost m i) old
 have_change m i old (Some new) = if same_held old new then None else Some (Have m i new.version (length new.complete))
 
 -- the stores before and after an event are compared

@@ -78,13 +78,9 @@ runs_by None (Some image_version) m = Some (record { image_version = image_versi
 runs_by None None m = None
 
 abbrev pub of_effect : World → Effect → Option ImageVersion → Does
-of_effect w e old = Goes (record {
-  trail = e.trail;
-  table = w.table;
-  started = e.started;
-  sent = e.sent;
-  runs = option_map (runs_by e.started old) e.mote;
-})
+of_effect w e old =
+    let runs = option_map (runs_by e.started old) e.mote in
+    Goes (record { trail = e.trail; table = w.table; started = e.started; sent = e.sent; runs = runs })
 
 abbrev pub tick_does : World → Store → Option Running → (now word : ℕ) → Does
 tick_does w s None now word = Refuses cause.Off
@@ -126,13 +122,8 @@ reloaded None now word = None
 reloaded (Some r) now word = Some (record r { mote = maintains r.mote now word })
 
 abbrev pub acts : World → ℕ → Trail Store → List Row → (now word : ℕ) → Does
-acts w m t table now word = Goes (record {
-  trail = t;
-  table = table;
-  started = None;
-  sent = None;
-  runs = Some (reloaded (site w m).runs now word);
-})
+acts w m t table now word =
+    Goes (record { trail = t; table = table; started = None; sent = None; runs = Some (reloaded (site w m).runs now word) })
 
 abbrev pub inject_unless : Option InjectFault → World → ℕ → Row → (now word : ℕ) → Does
 inject_unless (Some fault) w m row now word = Refuses (inject_cause row fault)

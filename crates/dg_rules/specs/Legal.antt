@@ -14,9 +14,10 @@ use Rattle.dg_mote.specs.Summary.{entry_for}
 use Rattle.dg_volume.specs.Sizes.{golden_version}
 use Rattle.dg_volume.specs.Table.{row_at, with_row}
 use Rattle.dg_rules.specs.Small.{Holding, SmallMote, Small, small_mote_at, holds, whole}
+use Rattle.dg_rules.specs.Events.{mote_of}
 use Rattle.dg_base.specs.declared.events.ImageVersion.{ImageVersion}
 use Rattle.dg_base.specs.declared.events.Event.{Event}
-use Rattle.dg_base.specs.declared.events.Event.TheVariants.{Tick, Hear, Last, Reset, Inject, Order as OrderEvent, Frame}
+use Rattle.dg_base.specs.declared.events.Event.TheVariants.{Tick, Reset, Inject, Order as OrderEvent}
 
 -- ---- the past, as far as a step depends on it
 
@@ -185,14 +186,8 @@ LegalAt f table (Inject m image version dt word) old new after =
 LegalAt f table (OrderEvent m number image version dt word) old new after =
     (mid : SmallMote) × LegalOrder f.fired (record { number = number; image = image; version = version }) old mid
     × (new ≡ off_after f.fired mid) × (after ≡ table)
-LegalAt f table (Hear m dt word number) old new after =
-    SmallIsOn old × (mid : SmallMote) × LegalFrame f.past f.fired m f.wide f.frame old mid
-    × (new ≡ off_after f.fired mid) × (after ≡ table)
-LegalAt f table (Last from m dt word) old new after =
-    SmallIsOn old × (mid : SmallMote) × LegalFrame f.past f.fired m f.wide f.frame old mid
-    × (new ≡ off_after f.fired mid) × (after ≡ table)
-LegalAt f table (Frame m dt word bytes) old new after =
-    SmallIsOn old × (mid : SmallMote) × LegalFrame f.past f.fired m f.wide f.frame old mid
+LegalAt f table event old new after =
+    SmallIsOn old × (mid : SmallMote) × LegalFrame f.past f.fired (mote_of event) f.wide f.frame old mid
     × (new ≡ off_after f.fired mid) × (after ≡ table)
 
 -- An event that is not refused changes only its mote, and there only what its kind allows.

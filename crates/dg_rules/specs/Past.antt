@@ -8,7 +8,7 @@ use Rattle.dg_rules.specs.Legal.{Past, Begins, Came, Started}
 use Rattle.dg_script.specs.Items.{Item, Declares, Applies}
 use Rattle.dg_rules.specs.Runs.{Played}
 use Rattle.dg_base.specs.declared.events.Event.{Event}
-use Rattle.dg_base.specs.declared.events.Event.TheVariants.{Tick, Hear, Last, Reset, Inject, Order as OrderEvent, Frame}
+use Rattle.dg_base.specs.declared.events.Event.TheVariants.{Hear, Last, Frame}
 use Rattle.dg_base.specs.declared.events.Step.{Step}
 
 -- the frame that an event brings to its mote
@@ -16,10 +16,7 @@ abbrev pub brought : World → Event → Option (List ℕ)
 brought w (Hear mote dt word frame) = option_map (λ (f : Sent). f.bytes) (frame_at w frame)
 brought w (Last from to dt word) = option_map (λ (f : Sent). f.bytes) (last_frame w from)
 brought w (Frame mote dt word bytes) = Some bytes
-brought w (Tick mote dt word) = None
-brought w (Reset mote dt word) = None
-brought w (Inject mote image version dt word) = None
-brought w (OrderEvent mote number image version dt word) = None
+brought w event = None
 
 -- ---- the past of what was played
 

@@ -21,7 +21,7 @@ use Rattle.dg_rules.specs.Past.{brought, past_of}
 use Rattle.dg_script.specs.Items.{Item, Declares, Applies}
 use Rattle.dg_rules.specs.Runs.{Played}
 use Rattle.dg_base.specs.declared.events.Event.{Event}
-use Rattle.dg_base.specs.declared.events.Event.TheVariants.{Tick, Hear, Last, Reset, Inject, Order as OrderEvent, Frame}
+use Rattle.dg_base.specs.declared.events.Event.TheVariants.{Inject}
 use Rattle.dg_base.specs.declared.events.Step.{Step}
 
 -- ---- legality
@@ -60,12 +60,7 @@ NamesNewer wide (Some bytes) i h =
 -- an injection brings a newer version of the image, or an advert that is heard names one
 abbrev pub Replaces : World → Event → ℕ → Holding → Type 0
 Replaces w (Inject m image version dt word) i h = (image ≡ i) × (h.version < version)
-Replaces w (Hear m dt word frame) i h = NamesNewer (wide_at w m) (brought w (Hear m dt word frame)) i h
-Replaces w (Last from to dt word) i h = NamesNewer (wide_at w to) (brought w (Last from to dt word)) i h
-Replaces w (Frame m dt word bytes) i h = NamesNewer (wide_at w m) (Some bytes) i h
-Replaces w (Tick m dt word) i h = ⊥
-Replaces w (Reset m dt word) i h = ⊥
-Replaces w (OrderEvent m number image version dt word) i h = ⊥
+Replaces w event i h = NamesNewer (wide_at w (mote_of event)) (brought w event) i h
 
 -- the cut of the step fired
 abbrev pub IsBlown : Does → Step → Type 0

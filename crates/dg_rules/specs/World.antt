@@ -44,16 +44,8 @@ off_site s = record { store = s; runs = None }
 -- the world in which a run begins: all motes are off, and nothing was sent
 abbrev pub first_world : List Row → List (ℕ × ℕ) → (narrow : List Bool) → List Store → World
 first_world table links narrow stores =
-    record {
-      moment = 0;
-      events = 0;
-      declared = [];
-      table = table;
-      links = links;
-      narrow = narrow;
-      sent = [];
-      sites = map off_site stores;
-    }
+    let sites = map off_site stores in
+    record { moment = 0; events = 0; declared = []; table = table; links = links; narrow = narrow; sent = []; sites = sites }
 
 -- a chip that no mote has: the result for a number that is not a mote's
 abbrev pub no_site : Site

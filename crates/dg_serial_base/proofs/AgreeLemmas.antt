@@ -19,9 +19,11 @@ use Rattle.dg_mote.specs.Model.{MoteState}
 use Rattle.dg_mote.specs.Effects.{tick_effect, frame_effect, reset_effect}
 use Rattle.dg_mote.specs.Agreement.{IsHonest}
 use Rattle.dg_mote.specs.Well.{StoreIsWell, IsWell, EffectIsWell}
-use Rattle.dg_serial_base.specs.BaseEvents.{Base, At, BaseEvent, Hears, Ticks, moment_at, draw_at, powered, power_effect, effect_of, after_base_event, BaseEventsRun}
+use Rattle.dg_serial_base.specs.BaseEvents.{Base, At, BaseEvent, Hears, Ticks, moment_at, powered, power_effect, effect_of, after_base_event, BaseEventsRun}
+use Rattle.dg_serial_base.specs.inner.Words.{draw_at}
 use Rattle.dg_serial_base.specs.Based.{BaseCame, FlashStopped, AtPower, Later, BaseEndsBy, Based}
-use Rattle.dg_serial_base.specs.Agreeing.{HonestBaseEvent, HonestLine, StandsWell, ChipAgrees}
+use Rattle.dg_serial_base.specs.Agreeing.{HonestBaseEvent, StandsWell}
+use Rattle.dg_serial_base.specs.inner.Words.{HonestLine, ChipAgrees}
 
 -- what is known of motes that agree
 pub record Laws : Type 0 where

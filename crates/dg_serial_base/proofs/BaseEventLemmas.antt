@@ -24,8 +24,9 @@ use Rattle.dg_mote.specs.Timely.{Timely}
 use Rattle.dg_mote.specs.declared.mote.Heard.{Heard}
 use Rattle.dg_mote.specs.declared.mote.Mote.{Mote}
 use Rattle.dg_serial.specs.Line.{stuffed_line, IsOnLine}
-use Rattle.dg_serial_base.specs.Based.{IsPrefixOfInput}
-use Rattle.dg_serial_base.specs.BaseEvents.{Base, At, BaseEvent, Hears, Ticks, powered, moment_at, draw_at, effect_of, after_base_event, sent_too, line_sent}
+use Rattle.dg_serial_base.specs.inner.Words.{IsPrefixOfInput}
+use Rattle.dg_serial_base.specs.BaseEvents.{Base, At, BaseEvent, Hears, Ticks, powered, moment_at, effect_of, after_base_event, sent_too, line_sent}
+use Rattle.dg_serial_base.specs.inner.Words.{draw_at}
 use Rattle.dg_serial_base.specs.inner.Standing.{Outset, code_at, BaseEventLeft, base_event_left, IsLeft, LeavesNone, StopsOn, FailedBy, EffectEnds, IsTime, Stood, IsStood, one_if, DoneOne, LacksIn, StopsInBaseEvent, BaseEventFails, BaseEventEnds, SendFails, StoppedBy, AreOnLine, BaseEventsHalted, CompletedOn}
 use Rattle.dg_serial_base.specs.declared.running.Running.{Running}
 use Rattle.dg_end.specs.declared.ends.End.{End}

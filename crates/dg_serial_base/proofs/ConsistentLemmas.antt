@@ -33,7 +33,8 @@ use Rattle.dg_mote.specs.Consistency.{AsksForKnown, StoreIsConsistent, TurnIsCon
 use Rattle.dg_mote.specs.declared.mote.Did.{Did}
 use Rattle.dg_mote.specs.declared.mote.Did.TheVariants.{Sent, Idle, Restart}
 use Rattle.dg_mote.proofs.KeepLemmas.{through_then, through_both}
-use Rattle.dg_serial_base.specs.BaseEvents.{Base, At, BaseEvent, Hears, Ticks, moment_at, draw_at, powered, power_effect, effect_of, after_base_event, base_events_of, BaseEventsRun}
+use Rattle.dg_serial_base.specs.BaseEvents.{Base, At, BaseEvent, Hears, Ticks, moment_at, powered, power_effect, effect_of, after_base_event, base_events_of, BaseEventsRun}
+use Rattle.dg_serial_base.specs.inner.Words.{draw_at}
 use Rattle.dg_serial_base.specs.Based.{BaseCame, FlashStopped, AtPower, Later, BaseEndsBy, Based}
 use Rattle.dg_serial_base.specs.Consistency.{BaseStartsSound, AllStartSound, BaseStaysConsistent}
 use Rattle.dg_serial_base.proofs.AgreeLemmas.{some_well}

@@ -6,7 +6,8 @@ use Rattle.dg_volume.specs.declared.volume.StartCause.TheVariants as cause
 use Rattle.dg_mote.specs.Effects.{Effect, reset_effect}
 use Rattle.dg_node.specs.Nodes.{node_mote}
 use Rattle.dg_mote.specs.Timely.{Timely}
-use Rattle.dg_serial_base.specs.BaseEvents.{Base, moment_at, draw_at, powered, power_effect, sent_too}
+use Rattle.dg_serial_base.specs.BaseEvents.{Base, moment_at, powered, power_effect, sent_too}
+use Rattle.dg_serial_base.specs.inner.Words.{draw_at}
 use Rattle.dg_serial_base.specs.inner.Standing.{IsLeft, FailedBy, IsTime, Stood}
 use Rattle.dg_serial_base.specs.declared.running.Running.{Running}
 use Rattle.dg_end.specs.declared.ends.End.{End}

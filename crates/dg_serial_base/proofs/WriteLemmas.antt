@@ -5,7 +5,7 @@ use Rattle.std.proofs.lemmas.List.{take-append-drop}
 use Rattle.dg_base.specs.Sizes.{longest_frame}
 use Rattle.dg_serial.specs.Line.{IsOnLine}
 use Rattle.dg_base.specs.Outside.{followed_by, Puts, PutsPrefix}
-use Rattle.dg_serial_base.specs.Based.{IsPrefixOfInput}
+use Rattle.dg_serial_base.specs.inner.Words.{IsPrefixOfInput}
 
 -- a frame with some bytes, and no more than a frame may have, is one that fits the line
 pub on_line : (frame : List ℕ) → 1 ≤ length frame → length frame ≤ longest_frame → IsOnLine frame

@@ -9,7 +9,7 @@ use Rattle.dg_frame.specs.declared.Message.{Message}
 use Rattle.dg_mote.specs.Model.{MoteState}
 use Rattle.dg_mote.specs.Effects.{Effect, reset_effect, frame_effect, tick_effect}
 use Rattle.dg_seed.specs.Draws.{draw_of}
-use Rattle.dg_serial.specs.Line.{SerialItem, Frame, Escape, Long, items, stuffed_line}
+use Rattle.dg_serial.specs.Line.{SerialItem, Frame, items, stuffed_line}
 
 -- what happens to a mote that is on
 pub data BaseEvent : Type 0 where
@@ -18,8 +18,7 @@ pub data BaseEvent : Type 0 where
 
 abbrev pub base_events_of_item : SerialItem → List BaseEvent
 base_events_of_item (Frame bytes) = Hears bytes ∷ Ticks ∷ []
-base_events_of_item Escape = Ticks ∷ []
-base_events_of_item Long = Ticks ∷ []
+base_events_of_item item = Ticks ∷ []
 
 -- the rest of a stream gives nothing
 abbrev pub base_events_of : List ℕ → List BaseEvent
@@ -38,12 +37,9 @@ pub record At : Type 0 where
   pub events : ℕ
   pub sent : List Message
 
--- the moment and the word of the event after this many
+-- the moment of the event after this many
 abbrev pub moment_at : Base → ℕ → ℕ
 moment_at b events = b.step * suc events
-
-abbrev pub draw_at : Base → ℕ → ℕ
-draw_at b events = draw_of b.seed events
 
 abbrev pub sent_too : List Message → Option Message → List Message
 sent_too sent None = sent
@@ -55,15 +51,15 @@ behind_event e events sent = record { mote = e.mote; store = last e.trail; event
 
 -- the chip powers on, in the first event
 abbrev pub power_effect : Base → Store → Effect
-power_effect b s = reset_effect s b.id true (moment_at b 0) (draw_at b 0)
+power_effect b s = reset_effect s b.id true (moment_at b 0) (draw_of b.seed 0)
 
 abbrev pub powered : Base → Store → At
 powered b s = behind_event (power_effect b s) 0 []
 
 -- what an event does to a mote that stands there
 abbrev pub effect_of : Base → MoteState → At → BaseEvent → Effect
-effect_of b m a (Hears bytes) = frame_effect m a.store (moment_at b a.events) (draw_at b a.events) bytes
-effect_of b m a Ticks = tick_effect m a.store (moment_at b a.events) (draw_at b a.events)
+effect_of b m a (Hears bytes) = frame_effect m a.store (moment_at b a.events) (draw_of b.seed a.events) bytes
+effect_of b m a Ticks = tick_effect m a.store (moment_at b a.events) (draw_of b.seed a.events)
 
 abbrev pub after_base_event : Base → MoteState → At → BaseEvent → At
 after_base_event b m a d = behind_event (effect_of b m a d) a.events a.sent
@@ -76,7 +72,3 @@ BaseEventsRun b a (d ∷ ds) z = (m : MoteState) × (a.mote ≡ Some m) × BaseE
 -- what is on the line of a mote that sent this: the frames of its messages, stuffed, in order
 abbrev pub line_sent : At → List ℕ
 line_sent a = stuffed_line (map frame_of a.sent)
-
--- a reader of that line gets these frames, all of them and in their order
-abbrev pub FramesComeBack : At → Type 0
-FramesComeBack a = items (line_sent a) ≡ map Frame (map frame_of a.sent)

@@ -1,6 +1,6 @@
 -- What a base mote did with its line (docs/COMMANDS.md, "Base").
 use Rattle.std.specs.Prelude.{◌≡◌, ◌≢◌, ◌⊎◌, ℕ, ◌+◌, ◌<◌, ◌≤◌, true, List, [], ◌∷◌, ◌++◌, length, take, Some, None}
-use Rattle.std.specs.Prelude.{Result, Ok, Err}
+use Rattle.std.specs.Prelude.{map, Result, Ok, Err}
 use Rattle.dg_words.specs.Counts.{Rose}
 use Rattle.dg_base.specs.Outside.{Takes, Puts, AtEnd}
 use Rattle.dg_base.specs.Sizes.{most_input}
@@ -16,11 +16,10 @@ use Rattle.dg_volume.specs.Store.{Store}
 use Rattle.dg_volume.specs.Stands.{Stands}
 use Rattle.dg_volume.specs.Acts.{Stops}
 use Rattle.dg_mote.specs.Model.{MoteState}
+use Rattle.dg_frame.specs.Spelling.{frame_of}
+use Rattle.dg_serial.specs.Line.{Frame, items}
 use Rattle.dg_serial_base.specs.BaseEvents.{Base, At, BaseEvent, base_events_of, powered, power_effect, effect_of, BaseEventsRun}
-use Rattle.dg_serial_base.specs.BaseEvents.{line_sent, FramesComeBack}
-
-abbrev pub IsPrefixOfInput : (front whole : List ℕ) → Type 0
-IsPrefixOfInput front whole = (more : List ℕ) × (front ++ more ≡ whole)
+use Rattle.dg_serial_base.specs.BaseEvents.{line_sent}
 
 -- From a chip that stood for s, by the rules: what happened to the mote, what was left of the items of the bytes that were
 -- taken, and where the mote stands then. No byte but the first 16,777,216 is used.
@@ -31,7 +30,7 @@ pub record BaseCame (b : Base) (s : Store) (input : List ℕ) : Type 0 where
   pub there : At
   pub run : BaseEventsRun b (powered b s) done there
   -- the frames that it sent come back from its line
-  pub heard : FramesComeBack there
+  pub heard : items (line_sent there) ≡ map Frame (map frame_of there.sent)
 
 -- All items were played, and the mote is on.
 abbrev pub PlayedAll : {b : Base} {s : Store} {input : List ℕ} → BaseCame b s input → Type 0
@@ -44,8 +43,8 @@ BaseWroteBy (Ok done) {b} {s} {input} c text = PlayedAll c × (text ≡ line_sen
 BaseWroteBy (Err ends.ReadFault) {b} {s} {input} c text = PlayedAll c × (text ≡ line_sent c.there) × (length input ≤ most_input)
 BaseWroteBy (Err ends.TooLong) {b} {s} {input} c text = PlayedAll c × (text ≡ line_sent c.there) × (most_input < length input)
 BaseWroteBy (Err ends.NoImage) {b} {s} {input} c text = (c.there.mote ≡ None) × (text ≡ line_sent c.there)
-BaseWroteBy (Err ends.Memory) {b} {s} {input} c text = IsPrefixOfInput text (line_sent c.there)
-BaseWroteBy (Err ends.WriteFault) {b} {s} {input} c text = IsPrefixOfInput text (line_sent c.there)
+BaseWroteBy (Err ends.Memory) {b} {s} {input} c text = (more : List ℕ) × (text ++ more ≡ line_sent c.there)
+BaseWroteBy (Err ends.WriteFault) {b} {s} {input} c text = (more : List ℕ) × (text ++ more ≡ line_sent c.there)
 BaseWroteBy (Err end) {b} {s} {input} c text = ⊥
 
 -- The chip stopped as it powered on, or in the next event.

@@ -1,5 +1,7 @@
 -- What the call of a base mote did over one chip (docs/COMMANDS.md, "Base").
-use Rattle.std.specs.Prelude.{List}
+use Rattle.std.specs.Prelude.{List, take}
+use Rattle.std.specs.List.{AllByRecursion}
+use Rattle.dg_base.specs.Sizes.{most_input}
 use Rattle.dg_base.specs.declared.answers.Status.{Status}
 use Rattle.dg_nor.specs.Device.{Device}
 use Rattle.dg_object.specs.Object.{Row, IsRow}
@@ -9,9 +11,9 @@ use Rattle.dg_volume.specs.Table.{IsTable}
 use Rattle.dg_mote.specs.Well.{StoreIsWell}
 use Rattle.dg_mote.specs.Consistency.{StoreIsConsistent}
 use Rattle.dg_outside.specs.Outside.{Outside}
-use Rattle.dg_serial_base.specs.BaseEvents.{Base}
+use Rattle.dg_serial_base.specs.BaseEvents.{Base, base_events_of}
 use Rattle.dg_serial_base.specs.Based.{Based, Refused, BaseCauses}
-use Rattle.dg_serial_base.specs.Agreeing.{HonestLine, ChipAgrees}
+use Rattle.dg_serial_base.specs.Agreeing.{HonestBaseEvent}
 use Rattle.dg_serial_base.specs.Consistency.{BaseStaysConsistent}
 
 -- a base mote played its line over one chip
@@ -23,7 +25,8 @@ pub record BasedOn (b : Base) (status : Status) (old new : Device) (x y : Outsid
   pub causes : BaseCauses status old new x y
   -- with honest frames a chip that agrees with a table of images agrees with it after the line, however it ended
   pub agrees : (s : Store) (table : List Row) (z : Based status b s old new x y) → IsTable table → StoreIsWell table s
-      → HonestLine table z.line.input → ChipAgrees table new.image
+      → AllByRecursion (HonestBaseEvent table) (base_events_of (take most_input z.line.input))
+      → (t : Store) × Stands new.image t × StoreIsWell table t
   -- whatever bytes came as frames, a consistent chip stays so, however the line ended; no start lacks an image,
   -- and what starts is sound
   pub consistent : (s : Store) (golden : Row) (z : Based status b s old new x y) → IsRow golden → StoreIsConsistent golden s

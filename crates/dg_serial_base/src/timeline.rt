@@ -1,6 +1,7 @@
 //! When events happen, and with which words.
 ghost use Rattle.std.specs.Prelude.{◌≡◌, ℕ, suc, ◌+◌, ◌^◌, ◌<◌, ◌≤◌};
-ghost use Rattle.dg_serial_base.specs.BaseEvents.{Base, moment_at, draw_at};
+ghost use Rattle.dg_serial_base.specs.BaseEvents.{Base, moment_at};
+ghost use Rattle.dg_serial_base.specs.inner.Words.{draw_at};
 ghost use Rattle.dg_serial_base.specs.inner.Standing.{IsTime};
 
 use dg_seed::Draws;

@@ -34,13 +34,17 @@ use Rattle.dg_script.specs.declared.line.Line.TheVariants.{Link, Happens as Even
 use Rattle.dg_script.specs.declared.place.Place.{Place}
 use Rattle.dg_script.specs.declared.report.Report.{Report}
 use Rattle.dg_world.specs.Alone.{uncut}
-use Rattle.dg_serve.specs.Promised.{event_item, served_item, RunOf, StoresConsistent, StoresKeepGolden, ServiceStaysConsistent, LeavesGolden, ServiceKeepsGolden, world_by, ReplaysTo}
+use Rattle.dg_serve.specs.Promised.{RunOf, StoresKeepGolden, ServiceStaysConsistent, ServiceKeepsGolden, world_by, ReplaysTo}
+use Rattle.dg_serve.specs.inner.Runs.{event_item, served_item, StoresConsistent, LeavesGolden}
 use Rattle.dg_serve.specs.Traces.{IsScript, trace, trace_lines}
-use Rattle.dg_serve.specs.Services.{Part, Begins, Looks, Ticks, Moment, Course, course}
-use Rattle.dg_serve.specs.Endings.{StoresOf, FindsNoImage, Remains, remains, EndsInNext, event_of}
+use Rattle.dg_serve.specs.Services.{Part, Begins, Looks, Ticks, Moment, Course}
+use Rattle.dg_serve.specs.inner.Stretches.{course}
+use Rattle.dg_serve.specs.Endings.{StoresOf, FindsNoImage, Remains, EndsInNext, event_of}
+use Rattle.dg_serve.specs.inner.Stretches.{remains}
 use Rattle.dg_outside.specs.Outside.{Outside, OutputState}
 use Rattle.dg_end.specs.Writes.{WritesEnd}
-use Rattle.dg_serve.specs.Served.{BoardsAfter, service_end, Began}
+use Rattle.dg_serve.specs.Served.{service_end, Began}
+use Rattle.dg_serve.specs.inner.Stretches.{BoardsAfter}
 use Rattle.dg_serve.specs.declared.stop.Stop.{Stop}
 use Rattle.dg_serve.specs.declared.stop.Stop.TheVariants as stop
 use Rattle.dg_serve.proofs.EventLemmas.{same_of}

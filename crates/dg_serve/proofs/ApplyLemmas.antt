@@ -27,7 +27,7 @@ use Rattle.dg_world.specs.declared.outcome.Fault.{Fault}
 use Rattle.dg_world.specs.declared.outcome.Fault.TheVariants as fault
 use Rattle.dg_node.specs.declared.node.Node.{Node}
 use Rattle.dg_serve.specs.Services.{Moment}
-use Rattle.dg_serve.specs.Traces.{event_lines, IsEventLine}
+use Rattle.dg_serve.specs.inner.Runs.{event_lines}
 use Rattle.dg_serve.specs.Endings.{ServedBoardsStand}
 use Rattle.dg_serve.specs.Standings.{Standing, StandsFor, StandsReady, BoardsAreUsed, BoardsAreCalm, PlayedAt, at_mote, AppliedAt, NotApplied, AppliedPartly, ApplyEnds, HandedToSome, FailuresBy, begun_before, begun_behind, handed_by, stop_by, stops_by}
 use Rattle.dg_serve.specs.declared.service.Service.{Service}
@@ -61,9 +61,6 @@ memory_ends motes links event p q untold link boards failures faults port = reco
 pub err_exit : (r : Result (Unit {0}) Stop) (why : Stop) (motes : ℕ) (links : List (ℕ × ℕ)) (event : Event) (p q : Standing) → IsErrAnd r (λ e. e ≡ why) → ApplyEnds (Err why) motes links event p q → ApplyEnds r motes links event p q
 err_exit (Ok x) why motes links event p q is ends = absurd is
 err_exit (Err e) why motes links event p q is ends = subst (λ (w : Stop). ApplyEnds (Err w) motes links event p q) (sym is) ends
-
-pub event_is : (event told : Event) → EventLine event ≡ EventLine told → event ≡ told
-event_is event told e = cc
 
 pub text_is : (event : Event) (x t : List ℕ) → x ≡ t → t ≡ line_text (EventLine event) ++ 10 ∷ [] → x ≡ event_lines (event ∷ [])
 text_is event x t same text = same ∙ text ∙ sym (one_line event)
@@ -306,7 +303,7 @@ pub link_counts : (why : Stop) (old new : ℕ) → why ≡ stop.Link → Failure
 link_counts why old new is counts = subst (λ (w : Stop). FailuresBy {T = Unit {0}} (Err w) old new) is counts
 
 -- the line of an event fits where there may be more motes
-fits_event : (motes : ℕ) (event : Event) → motes ≤ most_motes → FitsEvent motes event → FitsEvent most_motes event
+pub fits_event : (motes : ℕ) (event : Event) → motes ≤ most_motes → FitsEvent motes event → FitsEvent most_motes event
 fits_event motes (Tick m dt word) few h = (omega (arith, few, h.0), h.1)
 fits_event motes (Hear m dt word frame) few h = ((omega (arith, few, h.0.0), h.0.1), h.1)
 fits_event motes (Last from to dt word) few h = (record { first = omega (arith, few, h.0.first); second = omega (arith, few, h.0.second); two = h.0.two }, h.1)
@@ -314,10 +311,6 @@ fits_event motes (Reset m dt word) few h = (omega (arith, few, h.0), h.1)
 fits_event motes (Inject m image version dt word) few h = ((omega (arith, few, h.0.0), h.0.1), h.1)
 fits_event motes (Order m number image version dt word) few h = ((omega (arith, few, h.0.0), h.0.1, h.0.2, h.0.3, h.0.4), h.1)
 fits_event motes (Frame m dt word bytes) few h = ((omega (arith, few, h.0.0), h.0.1), h.1)
-
-pub fits_more : (motes : ℕ) (line : Line) → motes ≤ most_motes → IsEventLine line → FitsLine motes line → FitsLine most_motes line
-fits_more motes line few told fits =
-    subst (λ l. FitsLine most_motes l) (sym told.1) (fits_event motes told.0 few (subst (λ l. FitsLine motes l) told.1 fits))
 
 pub err_is : {T : Type 0} (r : Result T Stop) (why cause : Stop) → IsErrAnd r (λ e. e ≡ why) → why ≡ cause → IsErrAnd r (λ e. e ≡ cause)
 err_is (Ok x) why cause is same = is

@@ -1,5 +1,6 @@
 -- What is done for each number in turn: one more, and the rest.
-use Rattle.std.proofs.Common.{◌≡◌, ℕ, zero, suc, ◌+◌, ◌*◌, ◌<◌, ◌≤◌, ◌⊎◌, List, [], ◌++◌, length, append-nil, append_assoc, refl, ap, sym, ◌∙◌, ⊎_elim, inl, inr, arith, add-one, length-append}
+use Rattle.std.proofs.Common.{◌≡◌, ℕ, zero, suc, ◌+◌, ◌*◌, ◌%◌, ◌<◌, ◌≤◌, ◌⊎◌, List, [], ◌++◌, length, append-nil, append_assoc, refl, ap, sym, ◌∙◌, ⊎_elim, inl, inr, arith, add-one, length-append}
+use Rattle.std.proofs.lemmas.Nat.{mod-mul-add}
 use Rattle.dg_serve.specs.Each.{each}
 
 -- one more number
@@ -39,3 +40,27 @@ pub each_few : {A : Type 0} (n c : ℕ) (f : ℕ → List A) → ((k : ℕ) → 
 unfolding each
 each_few zero c f h = omega arith
 each_few (suc n) c f h = let before = each_few n c f h in grind (arith, length-append (each n f) (f n), h n)
+
+-- the first numbers, and those after them
+pub each_add : {A : Type 0} (a b : ℕ) (f : ℕ → List A) → each (a + b) f ≡ each a f ++ each b (λ k. f (a + k))
+unfolding each
+each_add a zero f = let none : a + 0 ≡ a = omega arith in ap (λ k. each k f) none ∙ sym (append-nil (each a f))
+each_add a (suc b) f =
+    let more : a + suc b ≡ suc (a + b) = omega arith in
+    ap (λ k. each k f) more ∙ ap (λ l. l ++ f (a + b)) (each_add a b f) ∙ append_assoc (each a f) (each b (λ k. f (a + k))) (f (a + b))
+
+pub each_same : {A : Type 0} (n : ℕ) (f g : ℕ → List A) → ((k : ℕ) → k < n → f k ≡ g k) → each n f ≡ each n g
+unfolding each
+each_same zero f g h = refl
+each_same (suc n) f g h = ap (λ l. l ++ f n) (each_same n f g (λ k less. h k (omega (arith, less)))) ∙ ap (λ l. each n g ++ l) (h n (omega arith))
+
+-- the numbers below n, this many times over
+pub each_over : {A : Type 0} (times n : ℕ) (f : ℕ → List A) → each (times * n) (λ k. f (k % n)) ≡ each times (λ t. each n f)
+each_over zero n f = let none : 0 * n ≡ 0 = omega arith in ap (λ k. each k (λ k. f (k % n))) none ∙ each_none (λ k. f (k % n)) ∙ sym (each_none (λ t. each n f))
+each_over (suc times) n f =
+    let more : suc times * n ≡ times * n + n = omega arith in
+    ap (λ k. each k (λ k. f (k % n))) more
+    ∙ each_add (times * n) n (λ k. f (k % n))
+    ∙ ap (λ l. l ++ each n (λ k. f ((times * n + k) % n))) (each_over times n f)
+    ∙ ap (λ l. each times (λ t. each n f) ++ l) (each_same n (λ k. f ((times * n + k) % n)) f (λ k less. ap f (mod-mul-add times n k less)))
+    ∙ sym (each_more times (λ t. each n f))

@@ -25,7 +25,8 @@ use Rattle.dg_node.specs.declared.node.Node.{Node}
 use Rattle.dg_world.proofs.PlaceLemmas.{is_or}
 use Rattle.dg_seed.specs.Draws.{generator_of}
 use Rattle.dg_serve.specs.Services.{Moment, Steps, new_frames, handed}
-use Rattle.dg_serve.specs.Endings.{BoardStands, BoardsStandBut, ServedBoardsStand, StopsInEvent, FindsNoVolume, FindsNoImage}
+use Rattle.dg_serve.specs.Endings.{BoardsStandBut, ServedBoardsStand, StopsInEvent, FindsNoVolume, FindsNoImage}
+use Rattle.dg_serve.specs.inner.Stretches.{BoardStands}
 use Rattle.dg_serve.specs.Standings.{Standing, StandsFor, handed_by}
 use Rattle.dg_serve.proofs.BoardLemmas.{get_set_same, get_set_other, got_within}
 

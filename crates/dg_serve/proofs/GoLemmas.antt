@@ -14,9 +14,12 @@ use Rattle.dg_nor.specs.Device.{Device}
 use Rattle.dg_volume.specs.Stands.{IsVolume}
 use Rattle.dg_script.specs.Spelling.{line_text}
 use Rattle.dg_script.specs.declared.line.Line.TheVariants.{Happens as EventLine}
-use Rattle.dg_serve.specs.Services.{Part, Moment, PartDone, PartsDone, course}
-use Rattle.dg_serve.specs.Traces.{UnwrittenLast, event_lines}
-use Rattle.dg_serve.specs.Endings.{Remains, remains, EndsInNext, LosesFrame, FoundBy, PartlyHanded, StopLeaves}
+use Rattle.dg_serve.specs.Services.{Part, Moment, PartDone, PartsDone}
+use Rattle.dg_serve.specs.inner.Stretches.{course}
+use Rattle.dg_serve.specs.Traces.{UnwrittenLast}
+use Rattle.dg_serve.specs.inner.Runs.{event_lines}
+use Rattle.dg_serve.specs.Endings.{Remains, EndsInNext, LosesFrame, FoundBy, PartlyHanded, StopLeaves}
+use Rattle.dg_serve.specs.inner.Stretches.{remains}
 use Rattle.dg_serve.specs.Standings.{Standing, StandsReady, IsBelow, IsEventAt, IsPartAt, ServedParts, CountsBy, PartsHalted, PartsGoOn, stretch}
 use Rattle.dg_serve.specs.declared.stop.Stop.{Stop}
 use Rattle.dg_serve.specs.declared.stop.Stop.TheVariants as stop

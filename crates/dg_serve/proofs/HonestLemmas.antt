@@ -25,7 +25,7 @@ use Rattle.dg_script.specs.declared.report.Report.{Report}
 use Rattle.dg_world.specs.Alone.{IsAlone, uncut}
 use Rattle.dg_serve.specs.Services.{Part, Begins, Looks, Ticks, Moment, Steps, EventApplied, PartDone, PartsDone, handed_to, handed, neighbours, new_frames}
 use Rattle.dg_serve.specs.Endings.{TakesFor, event_of}
-use Rattle.dg_serve.specs.Promised.{event_item, served_item}
+use Rattle.dg_serve.specs.inner.Runs.{event_item, served_item}
 use Rattle.dg_serve.proofs.AnyLemmas.{first_is, others_are, none_is_some, stepped_by}
 use Rattle.dg_serve.proofs.RunLemmas.{PartFits, all_both}
 
@@ -195,7 +195,7 @@ module _ (keeps : KeepsAgreement) (table : List Row) (motes : ℕ) where
   part_honest : (part : Part) (s t : Moment) (es : List Event) → PartFits motes part → IsHonestSo table motes s → PartDone motes part s es t → AllByRecursion (HonestAlone table) es × IsHonestSo table motes t
   part_honest (Begins m) s t es fits h done = applied s t (λ dt word. Reset m dt word) es h (λ dt word. fits) (λ dt word. (tt, tt)) done
   part_honest (Ticks m) s t es fits h done = applied s t (λ dt word. Tick m dt word) es h (λ dt word. fits) (λ dt word. (tt, tt)) done
-  part_honest (Looks m) s t es fits h (inl none) = (subst (AllByRecursion (HonestAlone table)) (sym none.nothing) tt, subst (IsHonestSo table motes) (sym none.same) h)
+  part_honest (Looks m) s t es fits h (inl none) = (subst (AllByRecursion (HonestAlone table)) (sym none.1) tt, subst (IsHonestSo table motes) (sym none.2) h)
   part_honest (Looks m) s t es fits h (inr one) =
       let x = taken_honest table m one.bytes s.inboxes one.taken h.waits one.takes in
       applied (record s { inboxes = one.taken }) t (λ dt word. Frame m dt word one.bytes) es (record { agrees = h.agrees; same = h.same; count = h.count; waits = x.1 }) (λ dt word. (fits, one.fits)) (λ dt word. (tt, x.0)) one.heard

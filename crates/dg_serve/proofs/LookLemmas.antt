@@ -5,8 +5,10 @@ use Rattle.dg_words.specs.Counts.{Rose}
 use Rattle.dg_link.specs.Inboxes.{Inboxes, TakesFrame, IsEmptyAt}
 use Rattle.dg_script.specs.Ranges.{IsFrame}
 use Rattle.dg_nor.specs.Device.{Device}
-use Rattle.dg_serve.specs.Services.{Looks, Moment, course}
-use Rattle.dg_serve.specs.Endings.{ServedBoardsStand, remains, StopLeaves}
+use Rattle.dg_serve.specs.Services.{Looks, Moment}
+use Rattle.dg_serve.specs.inner.Stretches.{course}
+use Rattle.dg_serve.specs.Endings.{ServedBoardsStand, StopLeaves}
+use Rattle.dg_serve.specs.inner.Stretches.{remains}
 use Rattle.dg_serve.specs.Standings.{Standing, StandsReady, BoardsAreUsed, BoardsAreCalm, ServedParts, PartsHalted, PartsGoOn, stretch, ReceivedAt, FailuresBy}
 use Rattle.dg_serve.specs.declared.stop.Stop.{Stop}
 use Rattle.dg_serve.specs.declared.stop.Stop.TheVariants as stop
@@ -23,7 +25,7 @@ none_came_at motes mote links p q ready none same = subst (λ x. ServedParts mot
   put = puts_none p.written p.written refl;
   run = λ first s st. (
     s,
-    one_part motes s s (Looks mote) [] (inl (record { none = subst (IsEmptyAt mote) st.inboxes none; nothing = refl; same = refl })),
+    one_part motes s s (Looks mote) [] (inl (subst (IsEmptyAt mote) st.inboxes none, refl, refl)),
     st,
   );
   ready = ready;

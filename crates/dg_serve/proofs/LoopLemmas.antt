@@ -1,16 +1,21 @@
 -- Parts in a loop, one after the other.
-use Rattle.std.proofs.Common.{◌≡◌, ℕ, ◌+◌, ◌-◌, ◌*◌, ◌^◌, ◌<◌, ◌≤◌, List, [], ◌∷◌, ◌++◌, length, sym, subst, arith}
+use Rattle.std.proofs.Common.{◌≡◌, ℕ, ◌+◌, ◌-◌, ◌*◌, ◌%◌, ◌^◌, ◌<◌, ◌≤◌, List, [], ◌∷◌, ◌++◌, length, sym, ap, ◌∙◌, subst, arith}
 use Rattle.std.specs.Prelude.{Result, Ok, Err, IsErrAnd}
+use Rattle.std.proofs.lemmas.Nat.{mul-le}
 use Rattle.dg_serve.specs.Each.{each}
-use Rattle.dg_serve.specs.Services.{Part, Looks, Ticks, turn_of_all}
+use Rattle.dg_serve.specs.Services.{Part, Looks, Ticks}
+use Rattle.dg_serve.specs.inner.Stretches.{turn_of_all}
 use Rattle.dg_serve.specs.Standings.{Standing, StandsForSome, StandsReady, IsUnderWay, ServedParts, PartsHalted, PartsGoOn, stretch}
 use Rattle.dg_serve.specs.declared.stop.Stop.{Stop}
-use Rattle.dg_serve.proofs.EachLemmas.{each_next, each_none, each_split, each_few}
+use Rattle.dg_serve.proofs.EachLemmas.{each_next, each_none, each_split, each_few, each_over}
 use Rattle.dg_serve.proofs.GoLemmas.{went_none, went_then, went_as, went_halts, halts_more, halts_as}
 
 pub halts_exit : (x : Result (Unit {0}) Stop) (why : Stop) (motes begun on : ℕ) (links : List (ℕ × ℕ)) (ps : List Part) (p q : Standing) → IsErrAnd x (λ e. e ≡ why) → PartsHalted why motes begun links ps p q → PartsGoOn x motes links (stretch begun on ps) p q
 halts_exit (Ok u) why motes begun on links ps p q is h = absurd is
 halts_exit (Err e) why motes begun on links ps p q is h = subst (λ (w : Stop). PartsHalted w motes begun links ps p q) (sym is) h
+
+pub goes_as : (x : Result (Unit {0}) Stop) (motes begun on : ℕ) (links : List (ℕ × ℕ)) (ps qs : List Part) (p q : Standing) → ps ≡ qs → PartsGoOn x motes links (stretch begun on ps) p q → PartsGoOn x motes links (stretch begun on qs) p q
+goes_as x motes begun on links ps qs p q same h = subst (λ (l : List Part). PartsGoOn x motes links (stretch begun on l) p q) same h
 
 went_some : (motes : ℕ) (links : List (ℕ × ℕ)) (ps : List Part) (p q : Standing) → ServedParts motes motes motes links ps p q → StandsForSome motes motes links p → StandsForSome motes motes links q
 went_some motes links ps p q went y = let x = went.run y.0 y.1 y.2 in (y.0, x.0, x.2)
@@ -38,8 +43,16 @@ loop_moved motes begun on links n many f p q few went =
     let moved = went.moved in
     omega (arith, size, moved)
 
-pub few_in_turn : (motes : ℕ) → motes ≤ 16 → length (turn_of_all motes) ≤ 32
-few_in_turn motes h = let n = each_few motes 2 (λ mote. Looks mote ∷ Ticks mote ∷ []) (λ k. omega arith) in omega (arith, n, h)
+-- what a mote does in its turn, where the turns go on one after another
+abbrev pub step_of : (motes step : ℕ) → List Part
+step_of motes step = Looks (step % motes) ∷ Ticks (step % motes) ∷ []
+
+pub steps_are_turns : (n motes turns : ℕ) → n ≡ motes → each (turns * n) (step_of n) ≡ each turns (λ turn. turn_of_all motes)
+steps_are_turns n motes turns same =
+    each_over turns n (λ mote. Looks mote ∷ Ticks mote ∷ []) ∙ ap (λ (k : ℕ). each turns (λ turn. turn_of_all k)) same
+
+pub few_steps : (turns motes : ℕ) → turns ≤ 1000000 → motes ≤ 16 → turns * motes ≤ 16000000
+few_steps turns motes few most = let n = mul-le turns motes 1000000 16 few most in omega (arith, n)
 
 -- the loop ran to its end
 pub loop_ends : (motes begun on : ℕ) (links : List (ℕ × ℕ)) (n k : ℕ) (f : ℕ → List Part) (p q : Standing) → n ≡ k → ServedParts motes begun on links (each n f) p q → ServedParts motes begun on links (each k f) p q

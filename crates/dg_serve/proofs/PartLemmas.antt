@@ -12,7 +12,8 @@ use Rattle.dg_mote.specs.Effects.{frame_effect}
 use Rattle.dg_script.specs.Fitting.{IsTimed}
 use Rattle.dg_world.specs.Worlds.{SiteStands}
 use Rattle.dg_seed.specs.Draws.{generator_of}
-use Rattle.dg_serve.specs.Services.{Part, Begins, Looks, Ticks, Moment, ReadsClock, Steps, EventApplied, later, at_reading}
+use Rattle.dg_serve.specs.Services.{Part, Begins, Looks, Ticks, Moment, ReadsClock, Steps, EventApplied}
+use Rattle.dg_serve.specs.inner.Stretches.{later, at_reading}
 use Rattle.dg_serve.specs.Endings.{event_of}
 use Rattle.dg_serve.specs.Standings.{Standing, StandsFor, IsPartAt}
 use Rattle.dg_serve.specs.declared.timeline.Timeline.{Timeline}

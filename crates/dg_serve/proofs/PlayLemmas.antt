@@ -23,7 +23,8 @@ use Rattle.dg_world.specs.declared.outcome.Fault.TheVariants as fault
 use Rattle.dg_node.specs.declared.node.Node.{Node}
 use Rattle.dg_link.specs.Inboxes.{Inboxes}
 use Rattle.dg_world.specs.Airs.{sent_now}
-use Rattle.dg_serve.specs.Services.{Moment, Steps, new_frames, handed_to, neighbours_by}
+use Rattle.dg_serve.specs.Services.{Moment, Steps, new_frames, handed_to}
+use Rattle.dg_serve.specs.inner.Stretches.{neighbours_by}
 use Rattle.dg_serve.specs.Endings.{ServedBoardsStand, EventEnds, HandedToFirst}
 use Rattle.dg_serve.specs.Standings.{Standing, StandsFor, PlayedAt, at_mote, begun_before, begun_behind, handed_by, HandedToSome, stop_by}
 use Rattle.dg_serve.proofs.OpenLemmas.{one_in}

@@ -21,8 +21,10 @@ use Rattle.dg_script.specs.Items.{Item, Applies}
 use Rattle.dg_script.specs.declared.report.Report.{Report}
 use Rattle.dg_world.specs.Alone.{uncut}
 use Rattle.dg_serve.specs.Each.{each}
-use Rattle.dg_serve.specs.Services.{Part, Begins, Looks, Ticks, Moment, EventApplied, PartDone, PartsDone, plan, beginning, turn_of_all}
-use Rattle.dg_serve.specs.Promised.{event_item, served_item, RunOf, ServedFirst}
+use Rattle.dg_serve.specs.Services.{Part, Begins, Looks, Ticks, Moment, EventApplied, PartDone, PartsDone, plan}
+use Rattle.dg_serve.specs.inner.Stretches.{beginning, turn_of_all}
+use Rattle.dg_serve.specs.Promised.{RunOf, ServedFirst}
+use Rattle.dg_serve.specs.inner.Runs.{event_item, served_item}
 use Rattle.dg_serve.proofs.EachLemmas.{each_more, each_none}
 
 -- ---- all of a list
@@ -108,7 +110,7 @@ part_run : (motes : ℕ) (part : Part) (s : Moment) (es : List Event) (t : Momen
 part_run motes (Begins m) s es t fits h = applied_run motes s (λ dt word. Reset m dt word) es t (λ dt word. fits) h
 part_run motes (Ticks m) s es t fits h = applied_run motes s (λ dt word. Tick m dt word) es t (λ dt word. fits) h
 part_run motes (Looks m) s es t fits (inl h) =
-    subst (λ (l : List Event). RunOf motes s.world l t.world) (sym h.nothing) (no_run motes s.world t.world (ap (λ (x : Moment). x.world) (sym h.same)))
+    subst (λ (l : List Event). RunOf motes s.world l t.world) (sym h.1) (no_run motes s.world t.world (ap (λ (x : Moment). x.world) (sym h.2)))
 part_run motes (Looks m) s es t fits (inr h) =
     applied_run motes (record s { inboxes = h.taken }) (λ dt word. Frame m dt word h.bytes) es t (λ dt word. (fits, h.fits)) h.heard
 

@@ -30,10 +30,10 @@ use Rattle.dg_script.specs.declared.fault.LineFault.{LineFault}
 use Rattle.dg_script.specs.declared.line.Line.{Line}
 use Rattle.dg_script.specs.declared.line.Line.TheVariants.{Nothing, Motes, Golden, Boards, Link, Image, Cut, Happens as EventLine, Round, Sweeps, Narrow}
 use Rattle.dg_script.specs.declared.place.Place.{Place}
-use Rattle.dg_script.proofs.ReadsBackLemmas.{line_reads}
+use Rattle.dg_lines.proofs.ReadsBackLemmas.{line_reads}
 use Rattle.dg_serve.specs.Services.{Part, Begins, Looks, Ticks, Moment, EventApplied, PartDone, PartsDone}
 use Rattle.dg_serve.specs.Traces.{head_lines, lines_text, trace, IsScript}
-use Rattle.dg_serve.proofs.ApplyLemmas.{fits_more}
+use Rattle.dg_serve.proofs.ApplyLemmas.{fits_event}
 use Rattle.dg_serve.proofs.RunLemmas.{Joins, PartFits, all_both}
 
 -- ---- texts without line ends
@@ -195,11 +195,11 @@ IsServed motes (Frame m d w bytes) = FitsEvent motes (Frame m d w bytes)
 
 event_read : (motes : ℕ) (b : Bool) (links : List (ℕ × ℕ)) (event : Event) → 1 ≤ motes → motes ≤ most_motes → IsServed motes event → line_of (behind_head motes b links) (line_text (EventLine event)) ≡ Ok (EventLine event)
 event_read motes b links (Tick m d w) some few h =
-    line_reads (behind_head motes b links) (EventLine (Tick m d w)) (fits_more motes (EventLine (Tick m d w)) few (Tick m d w, refl) h) tt (record { fits = and_from _ _ (some_motes motes some) refl; behind = refl }) h refl
+    line_reads (behind_head motes b links) (EventLine (Tick m d w)) (fits_event motes (Tick m d w) few h) tt (record { fits = and_from _ _ (some_motes motes some) refl; behind = refl }) h refl
 event_read motes b links (Reset m d w) some few h =
-    line_reads (behind_head motes b links) (EventLine (Reset m d w)) (fits_more motes (EventLine (Reset m d w)) few (Reset m d w, refl) h) tt (record { fits = and_from _ _ (some_motes motes some) refl; behind = refl }) h refl
+    line_reads (behind_head motes b links) (EventLine (Reset m d w)) (fits_event motes (Reset m d w) few h) tt (record { fits = and_from _ _ (some_motes motes some) refl; behind = refl }) h refl
 event_read motes b links (Frame m d w bytes) some few h =
-    line_reads (behind_head motes b links) (EventLine (Frame m d w bytes)) (fits_more motes (EventLine (Frame m d w bytes)) few (Frame m d w bytes, refl) h) tt (record { fits = and_from _ _ (some_motes motes some) refl; behind = refl }) h refl
+    line_reads (behind_head motes b links) (EventLine (Frame m d w bytes)) (fits_event motes (Frame m d w bytes) few h) tt (record { fits = and_from _ _ (some_motes motes some) refl; behind = refl }) h refl
 event_read motes b links (Hear m d w k) some few h = absurd h
 event_read motes b links (Last x y d w) some few h = absurd h
 event_read motes b links (Inject m i v d w) some few h = absurd h
@@ -323,7 +323,7 @@ applied_served motes s event es t fits h = subst (AllByRecursion (IsServed motes
 part_served : (motes : ℕ) (part : Part) (s : Moment) (es : List Event) (t : Moment) → PartFits motes part → PartDone motes part s es t → AllByRecursion (IsServed motes) es
 part_served motes (Begins m) s es t fits h = applied_served motes s (λ dt word. Reset m dt word) es t (λ dt word timed. (fits, timed)) h
 part_served motes (Ticks m) s es t fits h = applied_served motes s (λ dt word. Tick m dt word) es t (λ dt word timed. (fits, timed)) h
-part_served motes (Looks m) s es t fits (inl h) = subst (AllByRecursion (IsServed motes)) (sym h.nothing) tt
+part_served motes (Looks m) s es t fits (inl h) = subst (AllByRecursion (IsServed motes)) (sym h.1) tt
 part_served motes (Looks m) s es t fits (inr h) = applied_served motes (record s { inboxes = h.taken }) (λ dt word. Frame m dt word h.bytes) es t (λ dt word timed. ((fits, h.fits), timed)) h.heard
 
 pub all_served : (motes : ℕ) (s : Moment) (parts : List Part) (es : List Event) (t : Moment) → AllByRecursion (PartFits motes) parts → PartsDone motes s parts es t → AllByRecursion (IsServed motes) es

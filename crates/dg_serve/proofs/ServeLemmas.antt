@@ -24,9 +24,11 @@ use Rattle.dg_end.specs.declared.ends.End.{End}
 use Rattle.dg_seed.specs.Draws.{first_generator}
 use Rattle.dg_serve.specs.Services.{plan}
 use Rattle.dg_serve.specs.Endings.{StoresOf, begins, end_of_stop}
-use Rattle.dg_serve.specs.Traces.{UnwrittenLast, trace, lines_text, head_lines, event_lines}
+use Rattle.dg_serve.specs.Traces.{UnwrittenLast, trace, lines_text, head_lines}
+use Rattle.dg_serve.specs.inner.Runs.{event_lines}
 use Rattle.dg_serve.specs.Standings.{Standing, StandsFor, IsBelow, StandsReady, BoardEndures, BoardIsCalm, BoardsAreUsed, Stretch, ServedParts, PartsHalted, PartsGoOn}
-use Rattle.dg_serve.specs.Served.{LinkHas, IsAtVolume, WroteTrace, MotesEndure, ServiceRan, Began, Hindered, DidNotBegin}
+use Rattle.dg_serve.specs.Served.{LinkHas, WroteTrace, MotesEndure, ServiceRan, Began, Hindered, DidNotBegin}
+use Rattle.dg_serve.specs.inner.Stretches.{IsAtVolume}
 use Rattle.dg_serve.specs.Ran.{IsOpened}
 use Rattle.dg_serve.specs.declared.stop.Stop.{Stop}
 use Rattle.dg_serve.specs.declared.stop.Stop.TheVariants as stop

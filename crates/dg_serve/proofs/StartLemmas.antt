@@ -13,7 +13,8 @@ use Rattle.dg_mote.specs.Timely.{Timely}
 use Rattle.dg_script.specs.Places.{none_narrow}
 use Rattle.dg_rules.specs.World.{Site, first_world, off_site, no_site}
 use Rattle.dg_seed.specs.Draws.{generator_of}
-use Rattle.dg_serve.specs.Services.{Part, Begins, Moment, beginning}
+use Rattle.dg_serve.specs.Services.{Part, Begins, Moment}
+use Rattle.dg_serve.specs.inner.Stretches.{beginning}
 use Rattle.dg_serve.specs.Endings.{StoresOf}
 use Rattle.dg_serve.specs.Standings.{Standing, StandsFor, StandsForSome, StandsReady, IsUnderWay, ServedParts}
 use Rattle.dg_serve.proofs.EventLemmas.{same_of}

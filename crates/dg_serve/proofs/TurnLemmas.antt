@@ -19,9 +19,10 @@ use Rattle.dg_mote.proofs.TimelyLemmas.{timely_later}
 use Rattle.dg_world.specs.Alone.{IsAlone, IsReset}
 use Rattle.dg_world.specs.Worlds.{MayRun, MoteStands}
 use Rattle.dg_node.specs.declared.node.Node.{Node}
-use Rattle.dg_serve.specs.Services.{Part, Begins, Looks, Ticks, Moment, Steps, EventApplied, PartDone, course}
-use Rattle.dg_serve.specs.Traces.{event_lines}
-use Rattle.dg_serve.specs.Endings.{ServedBoardsStand, FindsNoImage, FindsNoVolume, EventEnds, remains, EndsInNext, TakesFor, FoundBy, HandedToFirst, PartlyHanded, StopLeaves, event_of}
+use Rattle.dg_serve.specs.Services.{Part, Begins, Looks, Ticks, Moment, Steps, EventApplied, PartDone}
+use Rattle.dg_serve.specs.inner.Runs.{event_lines}
+use Rattle.dg_serve.specs.Endings.{ServedBoardsStand, FindsNoImage, FindsNoVolume, EventEnds, EndsInNext, TakesFor, FoundBy, HandedToFirst, PartlyHanded, StopLeaves, event_of}
+use Rattle.dg_serve.specs.inner.Stretches.{course, remains}
 use Rattle.dg_serve.specs.Standings.{Standing, StandsFor, StandsForSome, StandsReady, IsUnderWay, EventAsks, BoardsAreUsed, BoardsAreCalm, ServedParts, PartsHalted, PartsGoOn, stretch, AppliedAt, NotApplied, HandedThen, AppliedPartly, ApplyEnds, begun_before, begun_behind}
 use Rattle.dg_serve.specs.declared.stop.Stop.{Stop}
 use Rattle.dg_serve.specs.declared.stop.Stop.TheVariants as stop
@@ -117,7 +118,6 @@ asked : (motes mote begun : ℕ) (links : List (ℕ × ℕ)) (event : Event) (dt
     → IsReset event ⊎ ((first : List Device) × (s : Moment) × StandsFor motes (begun_before motes event) links (dt_of event) first s m) → EventAsks motes mote links event m
 asked motes mote begun links event dt word p m d ready early fits alone at known may off some = record {
   fits = fits;
-  short = tt;
   alone = alone;
   at = at;
   known = known;

@@ -34,24 +34,16 @@ pub record StoresOf (motes : ℕ) (boards : List Device) (stores : List Store) :
 
 -- wide motes begin from these stores, at this first answer of the clock
 abbrev pub begins : List Row → List (ℕ × ℕ) → List Store → (origin : ℕ) → Option Answers → (seed : ℕ) → Option Inboxes → Moment
-begins table links stores origin clock seed inboxes = record {
-  world = first_world table links none_narrow stores;
-  reading = origin;
-  clock = clock;
-  draws = first_generator seed;
-  inboxes = inboxes;
-}
+begins table links stores origin clock seed inboxes =
+    let w = first_world table links none_narrow stores in
+    record { world = w; reading = origin; clock = clock; draws = first_generator seed; inboxes = inboxes }
 
 -- ---- boards
-
--- A board stands for its store in the world. One that was not a volume has its bytes unchanged.
-abbrev pub BoardStands : World → ℕ → (old new : Device) → Type 0
-BoardStands w m a b = (IsVolume a.image → Stands b.image (store_at w m)) × (IsNoVolume a.image → b.image ≡ a.image)
 
 -- Each board stands so, except those for which P holds.
 abbrev pub BoardsStandBut : (ℕ → Type 0) → World → (old new : List Device) → Type 0
 BoardsStandBut P w old new = (m : ℕ) (a b : Device) → m < length w.sites → (P m → ⊥) → slice_get old m ≡ Some a
-    → slice_get new m ≡ Some b → BoardStands w m a b
+    → slice_get new m ≡ Some b → (IsVolume a.image → Stands b.image (store_at w m)) × (IsNoVolume a.image → b.image ≡ a.image)
 
 -- All boards stand so.
 abbrev pub ServedBoardsStand : World → (old new : List Device) → Type 0
@@ -87,11 +79,10 @@ pub record FindsNoImage (w : World) (event : Event) (old new : List Device) : Ty
 -- how an event that was not applied leaves the boards
 abbrev pub EventEnds : Stop → World → Event → (old new : List Device) → Type 0
 EventEnds Memory w event old new = ServedBoardsStand w old new
-EventEnds Write w event old new = ⊥
-EventEnds Link w event old new = ⊥
 EventEnds Flash w event old new = StopsInEvent w event old new
 EventEnds NotAVolume w event old new = FindsNoVolume w event old new
 EventEnds NoImage w event old new = FindsNoImage w event old new
+EventEnds stop w event old new = ⊥
 
 -- the event of a part at these numbers, where a frame of these bytes came
 abbrev pub event_of : Part → (dt word : ℕ) → List ℕ → Event
@@ -106,9 +97,6 @@ pub record Remains : Type 0 where
   pub boards : List Device
   pub inboxes : Option Inboxes
   pub clock : Option Answers
-
-abbrev pub remains : (boards : List Device) (inboxes : Option Inboxes) (clock : Option Answers) → Remains
-remains boards inboxes clock = record { boards = boards; inboxes = inboxes; clock = clock }
 
 -- what an event takes from the link before it is applied: the frame that is heard, and else nothing
 abbrev pub TakesFor : Event → Option Inboxes → Option Inboxes → Type 0

@@ -7,3 +7,4 @@ pub mod Standings
 pub mod Ran
 pub mod Networks
 pub mod Promised
+pub mod inner

@@ -13,7 +13,7 @@ use Rattle.dg_end.specs.Lines.{status_of, last_line}
 use Rattle.dg_end.specs.Writes.{WritesLast}
 use Rattle.dg_end.specs.declared.ends.End.{End}
 use Rattle.dg_end.specs.declared.ends.End.TheVariants as ends
-use Rattle.dg_serve.specs.Served.{Served}
+use Rattle.dg_serve.specs.Served.{Began, DidNotBegin}
 
 -- ---- the profile by the rules, from the input and the number of boards alone
 
@@ -53,7 +53,7 @@ pub record EndsAtOnce (end : End) (answer : Status) (a b : Outside) : Type 0 whe
   pub same : b ≡ record a { input = b.input; output = b.output }
 
 abbrev pub DoneBy : Result NetProfile End → (answer : Status) → (seed turns : ℕ) → (a b : Outside) → Type 0
-DoneBy (Ok profile) answer seed turns a b = Served answer profile seed turns a b
+DoneBy (Ok profile) answer seed turns a b = DidNotBegin answer profile a b ⊎ Began answer profile seed turns a b
 DoneBy (Err end) answer seed turns a b = EndsAtOnce end answer a b
 
 -- of a profile that was read, or of the end without one
@@ -63,4 +63,4 @@ NetworkDone outcome answer seed turns a b = DoneBy (with_boards_for (length a.bo
 pub record NetworkServed (answer : Status) (seed turns : ℕ) (a b : Outside) : Type 0 where
   pub outcome : Result NetProfile End
   pub read : NetworkRead outcome a.input b.input
-  pub done : NetworkDone outcome answer seed turns a b
+  pub done : DoneBy (with_boards_for (length a.boards) outcome) answer seed turns a b

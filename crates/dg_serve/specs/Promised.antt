@@ -16,7 +16,7 @@ use Rattle.dg_rules.specs.Consistency.{WorldConsistent, LeavesConsistent, Starts
 use Rattle.dg_rules.specs.Golden.{KeepsGoldenRow, WorldKeepsGolden, FindsImage}
 use Rattle.dg_mote.specs.Consistency.{StoreIsConsistent}
 use Rattle.dg_script.specs.Places.{first_place, none_narrow}
-use Rattle.dg_script.specs.Items.{Item, Applies, items_of, place_behind}
+use Rattle.dg_script.specs.Items.{Applies, items_of, place_behind}
 use Rattle.dg_script.specs.declared.line.Line.{Line}
 use Rattle.dg_script.specs.declared.line.Line.TheVariants.{Motes, Boards}
 use Rattle.dg_world.specs.Alone.{uncut}
@@ -24,17 +24,11 @@ use Rattle.dg_serve.specs.Services.{Part, Moment}
 use Rattle.dg_serve.specs.Endings.{TakesFor, event_of}
 use Rattle.dg_serve.specs.Traces.{IsScript}
 
--- an event of a service as an item of a run: no power is cut in it
-abbrev pub event_item : Event → Item
-event_item event = Applies (uncut event) true
-
-abbrev pub served_item : Played → Item
-served_item p = p.item
-
 -- a run of the rules over these events, between these worlds
 pub record RunOf (motes : ℕ) (u : World) (events : List Event) (v : World) : Type 0 where
   pub played : List Played
-  pub items : map served_item played ≡ map event_item events
+  -- no power is cut in them
+  pub items : map (λ (p : Played). p.item) played ≡ map (λ e. Applies (uncut e) true) events
   pub plays : Plays u played v
   pub ranges : AllByRecursion (PlayedInRange motes) played
 
@@ -54,10 +48,6 @@ pub record ServedFramesAreHonest (table : List Row) (stores : List Store) (playe
 
 -- ---- whatever bytes the frames carry
 
--- What each board stands for is consistent: golden is whole, and what else is kept fits its own descriptor.
-abbrev pub StoresConsistent : Row → List Store → Type 0
-StoresConsistent golden stores = (m : ℕ) → m < length stores → StoreIsConsistent golden (store_of stores m)
-
 -- every board keeps golden whole
 abbrev pub StoresKeepGolden : List Store → Type 0
 StoresKeepGolden stores = (m : ℕ) → m < length stores → KeepsGoldenRow (store_of stores m)
@@ -72,17 +62,28 @@ pub record ServiceStaysConsistent (golden : Row) (motes : ℕ) (played : List Pl
   -- wherever a stop comes in the next event, each store that the chip may then stand for is consistent
   pub halves : (e : Event) → EventInRange motes e → StopsConsistent golden v e
 
-abbrev pub LeavesGolden : Played → Type 0
-LeavesGolden p = WorldKeepsGolden p.after
-
 pub record ServiceKeepsGolden (motes : ℕ) (played : List Played) (v : World) : Type 0 where
   -- every mote keeps golden whole and asks for other images, after each event and in the last world
-  pub kept : AllByRecursion LeavesGolden played
+  pub kept : AllByRecursion (λ (p : Played). WorldKeepsGolden p.after) played
   pub ends : WorldKeepsGolden v
   -- the next event finds an image to start, golden if no other
   pub found : (e : Event) → EventInRange motes e → FindsImage (does v e)
 
 -- ---- what a service keeps
+
+-- What holds of what was played first, where the frames of it are honest.
+pub record HonestService (motes : ℕ) (table : List Row) {u : World} {ps : List Played} (f : ServedFirst u ps) : Type 0 where
+  -- each step is legal after those before it
+  pub legal : EachAfter IsLegal [] f.first
+  -- no version falls, and a complete page stays unless a newer version of its image replaces it
+  pub keeps : AllByRecursion KeepsAll f.first
+  -- what starts is a row of the table
+  pub starts : AllByRecursion StartsRow f.first
+  -- the world after each event agrees with its table, and so does the one that it leads to
+  pub agrees : AllByRecursion LeavesAgreement f.first × WorldAgrees f.last
+  -- each store that the chip may stand for, wherever a stop comes in the next event, agrees with the table, if that event is
+  -- honest too
+  pub halves : (e : Event) → EventInRange motes e → HoldsTo table f.last e → StopsAgree f.last e
 
 -- The events are those of a run of wide motes up to this moment. What is promised of a script over boards as they are holds of
 -- this run. The link exposed these inboxes, if any, before it was opened.
@@ -95,29 +96,12 @@ pub record KeepsRules (told : Option Inboxes) (table : List Row) (stores : List 
   -- and so is the frame that the next event takes from them
   pub next : IsSome told → StoresAgree table stores → (part : Part) (dt word : ℕ) (bytes : List ℕ) (after : Option Inboxes)
       → TakesFor (event_of part dt word bytes) last.inboxes after → HoldsTo table last.world (event_of part dt word bytes)
-  -- where the frames of what was played first are honest, each step of it is legal after those before it
-  pub legal : (f : ServedFirst (first_world table links none_narrow stores) run.played)
-      → ServedFramesAreHonest table stores f.first
-      → EachAfter IsLegal [] f.first
-  -- then no version falls, and a complete page stays unless a newer version of its image replaces it
-  pub keeps : (f : ServedFirst (first_world table links none_narrow stores) run.played)
-      → ServedFramesAreHonest table stores f.first
-      → AllByRecursion KeepsAll f.first
-  -- then what starts is a row of the table
-  pub starts : (f : ServedFirst (first_world table links none_narrow stores) run.played)
-      → ServedFramesAreHonest table stores f.first
-      → AllByRecursion StartsRow f.first
-  -- then the world after each event agrees with its table, and so does the one that it leads to
-  pub agrees : (f : ServedFirst (first_world table links none_narrow stores) run.played)
-      → ServedFramesAreHonest table stores f.first
-      → AllByRecursion LeavesAgreement f.first × WorldAgrees f.last
-  -- then each store that the chip may stand for, wherever a stop comes in the next event, agrees with the table, if that event
-  -- is honest too
-  pub halves : (f : ServedFirst (first_world table links none_narrow stores) run.played) (e : Event)
-      → ServedFramesAreHonest table stores f.first → EventInRange motes e → HoldsTo table f.last e → StopsAgree f.last e
+  pub honestly : (f : ServedFirst (first_world table links none_narrow stores) run.played)
+      → ServedFramesAreHonest table stores f.first → HonestService motes table f
   -- with any frames at all, over consistent boards: each store stays consistent,
   -- and what starts is golden or fits its own descriptor
-  pub consistent : (golden : Row) → StoresConsistent golden stores → ServiceStaysConsistent golden motes run.played last.world
+  pub consistent : (golden : Row) → ((m : ℕ) → m < length stores → StoreIsConsistent golden (store_of stores m))
+      → ServiceStaysConsistent golden motes run.played last.world
   -- with any frames at all, over boards that keep golden whole: they still do, and a start finds it
   pub golden : StoresKeepGolden stores → ServiceKeepsGolden motes run.played last.world
 
@@ -136,7 +120,7 @@ pub record ReplaysTo (bytes : List ℕ) (lines : List Line) (motes : ℕ) (table
   pub rest : List Line
   pub over_boards : lines ≡ Motes motes ∷ Boards ∷ rest
   pub played : List Played
-  pub items : map served_item played ≡ items_of lines
+  pub items : map (λ (p : Played). p.item) played ≡ items_of lines
   pub plays : Plays (world_by lines table stores) played v
-  pub only : (others : List Played) (w : World) → map served_item others ≡ items_of lines
+  pub only : (others : List Played) (w : World) → map (λ (p : Played). p.item) others ≡ items_of lines
       → Plays (world_by lines table stores) others w → w ≡ v

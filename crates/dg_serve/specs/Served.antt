@@ -1,6 +1,7 @@
 -- What a service did: the events that were applied, what it wrote, and how it left the boards, the link and the clock
 -- (docs/COMMANDS.md, "Serve").
 use Rattle.std.specs.Prelude.{◌≡◌, ◌≢◌, ◌⊎◌, ℕ, ◌≤◌, List, [], ◌++◌, slice_get, Option, Some, None, option_map, Result, Ok, Err}
+use Rattle.std.specs.Option.{MatchOption}
 use Rattle.std.specs.List.{AllByRecursion}
 use Rattle.dg_words.specs.Counts.{Rose}
 use Rattle.dg_base.specs.Clock.{Answers, Answered}
@@ -20,8 +21,8 @@ use Rattle.dg_world.specs.Counts.{NoneRose}
 use Rattle.dg_outside.specs.Outside.{Outside, OutputState, LinkState}
 use Rattle.dg_end.specs.Writes.{WritesEnd}
 use Rattle.dg_end.specs.declared.ends.End.{End}
-use Rattle.dg_serve.specs.Services.{Part, Moment, PartsDone, Course, course, plan}
-use Rattle.dg_serve.specs.Endings.{StoresOf, begins, ServedBoardsStand, remains, end_of_stop, StopLeaves}
+use Rattle.dg_serve.specs.Services.{Part, Moment, PartsDone, Course, plan}
+use Rattle.dg_serve.specs.Endings.{StoresOf, begins, ServedBoardsStand, end_of_stop, StopLeaves}
 use Rattle.dg_serve.specs.Traces.{UnwrittenLast, trace, lines_text, head_lines}
 use Rattle.dg_serve.specs.declared.stop.Stop.{Stop}
 use Rattle.dg_serve.specs.declared.stop.Stop.TheVariants as stop
@@ -34,22 +35,18 @@ AtPort profile a b = b.port ≡ option_map (λ port. profile.port) a.port
 
 -- it was to be opened: it has this many motes, whose inboxes are empty
 abbrev pub LinkHas : (motes : ℕ) → NetProfile → (a b : LinkState) → Type 0
-LinkHas motes profile a b = (b.inboxes ≡ option_map (emptied motes) a.inboxes) × AtPort profile a b
+LinkHas motes profile a b =
+    (b.inboxes ≡ option_map (emptied motes) a.inboxes) × (b.port ≡ option_map (λ port. profile.port) a.port)
 
 -- ---- how far it came
-
--- how the boards, the link and the clock are left, by why the service ended before its turns were over, if it did
-abbrev pub BoardsAfter : Option Stop → (motes : ℕ) → Moment → Course → (last : Moment) → List Device → Outside → Type 0
-BoardsAfter None motes s c last first b =
-    ServedBoardsStand last.world first b.boards × (b.link.inboxes ≡ last.inboxes) × (b.clock ≡ last.clock)
-BoardsAfter (Some why) motes s c last first b =
-    StopLeaves why motes s c last first (remains b.boards b.link.inboxes b.clock)
 
 -- From this moment on the service came as far as this.
 pub record Came (why : Option Stop) (motes : ℕ) (s : Moment) (c : Course) (first : List Device) (b : Outside) : Type 0 where
   pub last : Moment
   pub serves : PartsDone motes s c.done c.events last
-  pub ends : BoardsAfter why motes s c last first b
+  pub ends : MatchOption why
+      (ServedBoardsStand last.world first b.boards × (b.link.inboxes ≡ last.inboxes) × (b.clock ≡ last.clock))
+      (λ stop. StopLeaves stop motes s c last first (record { boards = b.boards; inboxes = b.link.inboxes; clock = b.clock }))
 
 -- What was written of the trace of these events. Where a line of it could not be written, it is that of the last event.
 abbrev pub WroteTrace : Option Stop → NetProfile → List Event → (a b : OutputState) → Type 0
@@ -70,10 +67,6 @@ pub record CountedBy (why : Option Stop) (a b : Outside) : Type 0 where
   pub sends : why ≢ Some stop.Link → b.link.failures ≡ a.link.failures
   pub calm : why ≢ Some stop.Flash → NoneRose a.boards b.boards
 
--- the board of an event is a volume
-abbrev pub IsAtVolume : List Device → Event → Type 0
-IsAtVolume boards event = (board : Device) → slice_get boards (mote_of event) ≡ Some board → IsVolume board.image
-
 -- The service began: its link was opened, and its clock read. It came as far as this before its last line.
 pub record ServiceRan (why : Option Stop) (profile : NetProfile) (seed turns : ℕ) (a b : Outside) : Type 0 where
   pub origin : ℕ
@@ -89,12 +82,12 @@ pub record ServiceRan (why : Option Stop) (profile : NetProfile) (seed turns : �
   pub came : (table : List Row) (stores : List Store) → StoresOf profile.motes a.boards stores
       → Came why profile.motes (begins table profile.links stores origin clock seed
       (option_map (emptied profile.motes) a.link.inboxes))
-      (course done events left) a.boards b
+      (record { done = done; events = events; left = left }) a.boards b
   -- none of the events was at a board that is not a volume
-  pub volumes : AllByRecursion (IsAtVolume a.boards) events
+  pub volumes : AllByRecursion (λ e. (d : Device) → slice_get a.boards (mote_of e) ≡ Some d → IsVolume d.image) events
   pub wrote : WroteTrace why profile events a.output b.output
   pub boards : MotesEndure profile.motes a.boards b.boards
-  pub port : AtPort profile a.link b.link
+  pub port : b.link.port ≡ option_map (λ port. profile.port) a.link.port
   pub counts : CountedBy why a b
 
 -- ---- how it ended
@@ -130,6 +123,3 @@ pub record DidNotBegin (answer : Status) (profile : NetProfile) (a b : Outside) 
   pub hindered : Hindered answer profile a b
   pub boards : b.boards ≡ a.boards
   pub clock : b.clock ≡ a.clock
-
-abbrev pub Served : Status → NetProfile → (seed turns : ℕ) → (a b : Outside) → Type 0
-Served answer profile seed turns a b = DidNotBegin answer profile a b ⊎ Began answer profile seed turns a b

@@ -24,17 +24,10 @@ pub data Part : Type 0 where
   Looks : (mote : ℕ) → Part
   Ticks : (mote : ℕ) → Part
 
--- each mote powers on
-abbrev pub beginning : ℕ → List Part
-beginning motes = each motes (λ mote. Begins mote ∷ [])
-
--- each mote looks, and ticks
-abbrev pub turn_of_all : ℕ → List Part
-turn_of_all motes = each motes (λ mote. Looks mote ∷ Ticks mote ∷ [])
-
 -- each mote begins, and then each looks and ticks once per turn, in ascending order
 abbrev pub plan : (motes turns : ℕ) → List Part
-plan motes turns = beginning motes ++ each turns (λ turn. turn_of_all motes)
+plan motes turns =
+    each motes (λ mote. Begins mote ∷ []) ++ each turns (λ turn. each motes (λ mote. Looks mote ∷ Ticks mote ∷ []))
 
 -- ---- where a service is
 
@@ -48,32 +41,21 @@ pub record Moment : Type 0 where
   -- the frames that wait, if the link exposes them
   pub inboxes : Option Inboxes
 
--- how much later an answer of the clock is, up to the most that an event can hold
-abbrev pub later : (before after : ℕ) → ℕ
-later before after = min (after - before) (2 ^ 32 - 1)
-
--- the clock answered this, which is not below its answer before
-abbrev pub at_reading : Moment → ℕ → Option Answers → Lcg → Moment
-at_reading s answer clock draws = record s { reading = answer; clock = clock; draws = draws }
-
 -- Before an event the clock is read and a word is taken. Nothing else changes.
 pub record ReadsClock (s : Moment) (dt word : ℕ) (t : Moment) : Type 0 where
   pub answer : ℕ
   pub rises : s.reading ≤ answer
   pub told : Answered s.clock t.clock answer
-  pub dt_is : dt ≡ later s.reading answer
+  pub dt_is : dt ≡ min (answer - s.reading) (2 ^ 32 - 1)
   pub draw_is : (word, t.draws) ≡ pcg32 s.draws
   pub fits : IsTimed dt word
-  pub same : t ≡ at_reading s answer t.clock t.draws
+  pub same : t ≡ record s { reading = answer; clock = t.clock; draws = t.draws }
 
 -- ---- frames over the link
 
 -- the neighbours of a mote, in ascending order
-abbrev pub neighbours_by : List (ℕ × ℕ) → (motes mote : ℕ) → List ℕ
-neighbours_by links motes mote = each motes (λ other. if is_linked links mote other then other ∷ [] else [])
-
 abbrev pub neighbours : World → (motes mote : ℕ) → List ℕ
-neighbours w motes mote = neighbours_by w.links motes mote
+neighbours w motes mote = each motes (λ other. if is_linked w.links mote other then other ∷ [] else [])
 
 -- a frame is forwarded to these motes, one after the other
 abbrev pub handed_to : List ℕ → List ℕ → Inboxes → Inboxes
@@ -109,12 +91,6 @@ pub record EventApplied (motes : ℕ) (s : Moment) (event : (dt word : ℕ) → 
   pub one : done ≡ event dt word ∷ []
   pub steps : Steps motes between (event dt word) t
 
--- no frame had come: nothing happens, the clock is not read, and no word is taken
-pub record NoneCame (mote : ℕ) (s : Moment) (done : List Event) (t : Moment) : Type 0 where
-  pub none : IsEmptyAt mote s.inboxes
-  pub nothing : done ≡ []
-  pub same : t ≡ s
-
 -- a frame of at most 64 bytes had come, the oldest that waits where that is known, and is heard
 pub record OneCame (motes mote : ℕ) (s : Moment) (done : List Event) (t : Moment) : Type 0 where
   pub bytes : List ℕ
@@ -123,9 +99,10 @@ pub record OneCame (motes mote : ℕ) (s : Moment) (done : List Event) (t : Mome
   pub takes : TakesFrame mote bytes s.inboxes taken
   pub heard : EventApplied motes (record s { inboxes = taken }) (λ dt word. Frame mote dt word bytes) done t
 
+-- A frame that came is heard. If none had come, nothing happens: the clock is not read, and no word is taken.
 abbrev pub PartDone : (motes : ℕ) → Part → Moment → List Event → Moment → Type 0
 PartDone motes (Begins m) s done t = EventApplied motes s (λ dt word. Reset m dt word) done t
-PartDone motes (Looks m) s done t = NoneCame m s done t ⊎ OneCame motes m s done t
+PartDone motes (Looks m) s done t = (IsEmptyAt m s.inboxes × (done ≡ []) × (t ≡ s)) ⊎ OneCame motes m s done t
 PartDone motes (Ticks m) s done t = EventApplied motes s (λ dt word. Tick m dt word) done t
 
 -- these parts were done, one after the other, and gave these events
@@ -140,6 +117,3 @@ pub record Course : Type 0 where
   pub done : List Part
   pub events : List Event
   pub left : List Part
-
-abbrev pub course : (done : List Part) (events : List Event) (left : List Part) → Course
-course done events left = record { done = done; events = events; left = left }

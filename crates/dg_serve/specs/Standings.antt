@@ -17,7 +17,6 @@ use Rattle.dg_volume.specs.Stands.{Stands, IsVolume, IsNoVolume}
 use Rattle.dg_mote.specs.declared.outbox.Outbox.{Outbox}
 use Rattle.dg_script.specs.Ranges.{IsFrame}
 use Rattle.dg_script.specs.Fitting.{FitsLine}
-use Rattle.dg_script.specs.Spelling.{IsShort}
 use Rattle.dg_script.specs.declared.line.Line.TheVariants.{Happens as EventLine}
 use Rattle.dg_script.specs.Places.{none_narrow}
 use Rattle.dg_rules.specs.World.{World, site, wide_at, store_at}
@@ -29,9 +28,12 @@ use Rattle.dg_world.specs.declared.outcome.Fault.{Fault}
 use Rattle.dg_world.specs.declared.outcome.Fault.TheVariants as fault
 use Rattle.dg_node.specs.declared.node.Node.{Node}
 use Rattle.dg_seed.specs.Draws.{generator_of}
-use Rattle.dg_serve.specs.Services.{Part, Begins, Looks, Ticks, Moment, PartsDone, course, Steps, handed_to, neighbours_by}
-use Rattle.dg_serve.specs.Traces.{UnwrittenLast, event_lines}
-use Rattle.dg_serve.specs.Endings.{ServedBoardsStand, EventEnds, HandedToFirst, remains, StopLeaves}
+use Rattle.dg_serve.specs.Services.{Part, Begins, Looks, Ticks, Moment, PartsDone, Steps, handed_to}
+use Rattle.dg_serve.specs.inner.Stretches.{course, neighbours_by}
+use Rattle.dg_serve.specs.Traces.{UnwrittenLast}
+use Rattle.dg_serve.specs.inner.Runs.{event_lines}
+use Rattle.dg_serve.specs.Endings.{ServedBoardsStand, EventEnds, HandedToFirst, StopLeaves}
+use Rattle.dg_serve.specs.inner.Stretches.{remains}
 use Rattle.dg_serve.specs.declared.service.Service.{Service}
 use Rattle.dg_serve.specs.declared.stop.Stop.{Stop}
 use Rattle.dg_serve.specs.declared.stop.Stop.TheVariants as stop
@@ -240,7 +242,6 @@ begun_behind motes (Frame mote dt word bytes) = motes
 -- some moment.
 pub record EventAsks (motes mote : ℕ) (links : List (ℕ × ℕ)) (event : Event) (p : Standing) : Type 0 where
   pub fits : FitsLine motes (EventLine event)
-  pub short : IsShort (EventLine event)
   pub alone : IsAlone event
   pub at : mote_of event ≡ mote
   pub known : mote < motes

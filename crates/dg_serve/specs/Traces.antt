@@ -18,12 +18,8 @@ head_lines p = Motes p.motes ∷ Boards ∷ map (λ l. Link l.0 l.1) p.links
 abbrev pub lines_text : List Line → List ℕ
 lines_text ls = flat_map (λ l. line_text l ++ 10 ∷ []) ls
 
--- the lines of events
-abbrev pub event_lines : List Event → List ℕ
-event_lines events = lines_text (map EventLine events)
-
 abbrev pub trace : NetProfile → List Event → List ℕ
-trace p events = lines_text (head_lines p) ++ event_lines events
+trace p events = lines_text (head_lines p) ++ lines_text (map EventLine events)
 
 -- After this head the lines of all events but the last were written, and a prefix of the line of the last event.
 pub record UnwrittenLast (head : List ℕ) (events : List Event) (text : List ℕ) : Type 0 where
@@ -31,11 +27,7 @@ pub record UnwrittenLast (head : List ℕ) (events : List Event) (text : List �
   pub event : Event
   pub events_are : events ≡ written ++ event ∷ []
   pub n : ℕ
-  pub text_is : text ≡ head ++ event_lines written ++ take n (event_lines (event ∷ []))
-
--- the line of an event
-abbrev pub IsEventLine : Line → Type 0
-IsEventLine line = (event : Event) × (line ≡ EventLine event)
+  pub text_is : text ≡ head ++ lines_text (map EventLine written) ++ take n (lines_text (EventLine event ∷ []))
 
 -- the lines of the script that records events
 abbrev pub trace_lines : NetProfile → List Event → List Line

@@ -5,7 +5,8 @@ ghost use Rattle.dg_base.specs.Sizes.{longest_frame};
 ghost use Rattle.dg_script.specs.Ranges.{IsFrame};
 ghost use Rattle.dg_script.specs.Places.{is_linked, joins};
 ghost use Rattle.dg_mote.specs.Motes.{sent_in};
-ghost use Rattle.dg_serve.specs.Services.{handed_to, neighbours_by};
+ghost use Rattle.dg_serve.specs.Services.{handed_to};
+ghost use Rattle.dg_serve.specs.inner.Stretches.{neighbours_by};
 ghost use Rattle.dg_serve.specs.Standings.{ReceivedAt, FailuresBy, handed_by, HandedToSome};
 
 use crate::stop::Stop;

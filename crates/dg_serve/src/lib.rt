@@ -16,5 +16,5 @@ pub use network::{read_network, serve_network};
 pub use service::Service;
 pub use serving::{open_service, serve};
 pub use stop::Stop;
-pub use telling::{line_event, put, write_event};
+pub use telling::{event_line, put};
 pub use timeline::{Timeline, Timing};

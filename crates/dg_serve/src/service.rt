@@ -2,13 +2,14 @@
 ghost use Rattle.std.specs.Prelude.{◌≡◌, ℕ, ◌+◌, ◌^◌, ◌<◌, ◌≤◌, [], ◌∷◌, map, Option};
 ghost use Rattle.dg_base.specs.Clock.{Answers};
 ghost use Rattle.dg_netcfg.specs.Readings.{IsAllowed};
-ghost use Rattle.dg_serve.specs.Services.{Begins, Looks, Ticks, beginning, turn_of_all, plan};
+ghost use Rattle.dg_serve.specs.Services.{Begins, Looks, Ticks, plan};
+ghost use Rattle.dg_serve.specs.inner.Stretches.{beginning};
 ghost use Rattle.dg_serve.specs.Standings.{StandsReady, IsUnderWay, PartsGoOn, EventAsks, ApplyEnds, stretch, standing_with};
 ghost use Rattle.dg_serve.specs.Standings.{service_standing};
 
 use crate::handing::{hand_on, receive};
 use crate::stop::Stop;
-use crate::telling::{line_event, put, write_event};
+use crate::telling::{event_line, put};
 use crate::timeline::Timeline;
 use dg_base::{Clock, Event, Sink};
 use dg_link::Link;
@@ -16,7 +17,6 @@ use dg_netcfg::NetProfile;
 use dg_node::Node;
 use dg_nor::Nor;
 use dg_rules::agreement_is_kept;
-use dg_script::Line;
 use dg_world::play_alone;
 use std::alloc::Global;
 
@@ -50,15 +50,13 @@ impl Service {
             (standing_with (self.new, map N.device boards.new) (K.Sink, out.new) (L.Link, link.new) (told, reached)) }
     {
         agreement_is_kept();
-        let line = Line::Happens(event);
-        write_event(&line, &mut self.text)?;
-        let borrowed = line_event(&line);
+        event_line(&event, &mut self.text)?;
         let now = self.timeline.moment;
         let index = usize::from(mote);
         let motes = self.motes.as_mut_slice();
         let runs = &mut motes[index];
         let board = &mut boards[index];
-        let sent = play_alone(runs, now, borrowed, board)?;
+        let sent = play_alone(runs, now, &event, board)?;
         put(self.text.as_slice(), out)?;
         hand_on(profile, mote, &sent, link)?;
         Ok(())
@@ -178,31 +176,7 @@ impl Service {
         Ok(())
     }
 
-    /// A turn: each mote looks and ticks, in ascending order.
-    fn play_turn<K: Sink, N: Nor, L: Link, C: Clock>(
-        &mut self,
-        profile: &NetProfile,
-        boards: &mut [N],
-        link: &mut L,
-        clock: &mut C,
-        out: &mut K,
-    ) -> Result<(), Stop>
-        requires allowed { IsAllowed profile.now }
-        requires under_way { IsUnderWay profile.now.motes profile.now.links (2 ^ 58)
-            (service_standing (self.old, map N.device boards.old) (K.Sink, out.old) (L.Link, link.old) (C.Clock, clock.old)) }
-        ensures goes { PartsGoOn result profile.now.motes profile.now.links
-            (stretch profile.now.motes profile.now.motes (turn_of_all profile.now.motes))
-            (service_standing (self.old, map N.device boards.old) (K.Sink, out.old) (L.Link, link.old) (C.Clock, clock.old))
-            (service_standing (self.new, map N.device boards.new) (K.Sink, out.new) (L.Link, link.new) (C.Clock, clock.new)) }
-    {
-        for mote in 0..profile.motes {
-            self.look(profile, mote, boards, link, clock, out)?;
-            self.tick(profile, mote, boards, link, clock, out)?;
-        }
-        Ok(())
-    }
-
-    /// Each mote powers on, and then this many turns are played.
+    /// Each mote powers on, and then this many turns are played. In a turn each mote looks and ticks, in ascending order.
     pub(crate) fn run<K: Sink, N: Nor, L: Link, C: Clock>(
         &mut self,
         turns: u32,
@@ -223,8 +197,11 @@ impl Service {
             (service_standing (self.new, map N.device boards.new) (K.Sink, out.new) (L.Link, link.new) (C.Clock, clock.new)) }
     {
         self.begin_all(profile, boards, link, clock, out)?;
-        for _turn in 0..turns {
-            self.play_turn(profile, boards, link, clock, out)?;
+        let motes = u32::from(profile.motes);
+        for step in 0..turns * motes {
+            let mote = (step % motes) as u8;
+            self.look(profile, mote, boards, link, clock, out)?;
+            self.tick(profile, mote, boards, link, clock, out)?;
         }
         Ok(())
     }

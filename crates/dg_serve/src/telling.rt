@@ -4,15 +4,16 @@ ghost use Rattle.dg_words.specs.Counts.{Rose};
 ghost use Rattle.dg_base.specs.Outside.{Puts, PutsPrefix};
 ghost use Rattle.dg_netcfg.specs.Readings.{IsAllowed};
 ghost use Rattle.dg_script.specs.Sizes.{most_motes};
-ghost use Rattle.dg_script.specs.Fitting.{FitsLine};
-ghost use Rattle.dg_script.specs.Spelling.{IsShort, line_text};
+ghost use Rattle.dg_script.specs.Fitting.{FitsEvent};
+ghost use Rattle.dg_script.specs.Spelling.{line_text};
 ghost use Rattle.dg_script.specs.declared.line.Line.TheVariants.{Happens as EventLine};
-ghost use Rattle.dg_serve.specs.Traces.{lines_text, head_lines, IsEventLine};
+ghost use Rattle.dg_serve.specs.Traces.{lines_text, head_lines};
 
 use crate::stop::Stop;
 use dg_base::{Event, Sink, WriteFailed};
+use dg_lines::{write_event, write_line};
 use dg_netcfg::NetProfile;
-use dg_script::{Line, write_line};
+use dg_script::Line;
 use std::alloc::AllocError;
 
 /// Writes a text.
@@ -43,24 +44,11 @@ pub(crate) fn write_head(profile: &NetProfile, text: &mut Vec<u8>) -> Result<(),
     Ok(())
 }
 
-/// The line of an event, which replaces what was in `text`.
-pub fn write_event(line: &Line, text: &mut Vec<u8>) -> Result<(), AllocError>
-    requires fits { FitsLine most_motes line.now }
-    requires short { IsShort line.now }
-    ensures { OnOk result (text.new.items ≡ line_text line.now ++ 10 ∷ []) }
+/// Makes a text the line of an event.
+pub fn event_line(event: &Event, text: &mut Vec<u8>) -> Result<(), AllocError>
+    requires { FitsEvent most_motes event.now }
+    ensures { OnOk result (text.new.items ≡ line_text (EventLine event.now) ++ 10 ∷ []) }
 {
     text.clear();
-    write_line(line, text)
-}
-
-/// The event of a line that is the line of one.
-pub fn line_event(line: &Line) -> &Event
-    requires { IsEventLine line.now }
-    ensures { line.now ≡ EventLine result.now }
-{
-    match line {
-        Line::Happens(event) => event,
-        // The line was made of an event, so that its frame stands once. The type `Line` does not say of what it was made.
-        _ => unreachable!(),
-    }
+    write_event(event, text)
 }

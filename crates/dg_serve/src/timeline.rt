@@ -3,7 +3,7 @@ ghost use Rattle.std.specs.Prelude.{◌≡◌, ◌+◌, ◌-◌, ◌^◌, ◌<�
 ghost use Rattle.rand_pcg.specs.Pcg.{pcg32};
 ghost use Rattle.dg_base.specs.Clock.{Answered};
 ghost use Rattle.dg_seed.specs.Draws.{first_generator, generator_of};
-ghost use Rattle.dg_serve.specs.Services.{later};
+ghost use Rattle.dg_serve.specs.inner.Stretches.{later};
 
 use dg_base::Clock;
 use dg_seed::Draws;

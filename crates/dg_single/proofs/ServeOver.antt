@@ -16,14 +16,17 @@ use Rattle.dg_volume.specs.Store.{Store}
 use Rattle.dg_volume.specs.Stands.{IsVolume}
 use Rattle.dg_rules.specs.Events.{mote_of}
 use Rattle.dg_seed.specs.Draws.{first_generator}
-use Rattle.dg_serve.specs.Services.{Begins, Moment, course}
+use Rattle.dg_serve.specs.Services.{Begins, Moment}
+use Rattle.dg_serve.specs.inner.Stretches.{course}
 use Rattle.dg_outside.specs.Outside.{Outside, InputState, OutputState}
 use Rattle.dg_end.specs.Lines.{status_of, last_line}
 use Rattle.dg_end.specs.Writes.{WritesLast}
-use Rattle.dg_serve.specs.Endings.{StoresOf, begins, remains, end_of_stop}
-use Rattle.dg_serve.specs.Traces.{event_lines}
+use Rattle.dg_serve.specs.Endings.{StoresOf, begins, end_of_stop}
+use Rattle.dg_serve.specs.inner.Stretches.{remains}
+use Rattle.dg_serve.specs.inner.Runs.{event_lines}
 use Rattle.dg_serve.specs.Standings.{Standing, StandsFor, IsBelow, IsEventAt, IsPartAt, ServedParts, PartsHalted}
-use Rattle.dg_serve.specs.Served.{IsAtVolume, Hindered, DidNotBegin}
+use Rattle.dg_serve.specs.Served.{Hindered, DidNotBegin}
+use Rattle.dg_serve.specs.inner.Stretches.{IsAtVolume}
 use Rattle.dg_serve.specs.Ran.{IsOpened}
 use Rattle.dg_serve.specs.declared.stop.Stop.{Stop}
 use Rattle.dg_serve.specs.declared.stop.Stop.TheVariants as stop

@@ -15,10 +15,11 @@ use Rattle.dg_volume.specs.Stands.{IsVolume}
 use Rattle.dg_world.specs.Boards.{BoardsEndure}
 use Rattle.dg_outside.specs.Outside.{Outside, OutputState}
 use Rattle.dg_end.specs.Writes.{WritesEnd}
-use Rattle.dg_serve.specs.Services.{Part, Moment, Course, course}
+use Rattle.dg_rules.specs.Events.{mote_of}
+use Rattle.dg_serve.specs.Services.{Part, Moment, Course}
 use Rattle.dg_serve.specs.Endings.{StoresOf, begins}
 use Rattle.dg_serve.specs.Standings.{IsEventAt}
-use Rattle.dg_serve.specs.Served.{Came, WroteTrace, AtPort, CountedBy, service_end, DidNotBegin, IsAtVolume}
+use Rattle.dg_serve.specs.Served.{Came, WroteTrace, AtPort, CountedBy, service_end, DidNotBegin}
 use Rattle.dg_serve.specs.declared.stop.Stop.{Stop}
 use Rattle.dg_single.specs.Overs.{latest_moment}
 use Rattle.dg_single.specs.Plans.{plan_of}
@@ -51,10 +52,10 @@ pub record MoteRun (why : Option Stop) (profile : NetProfile) (mote seed turns :
       → OthersAreVolumes profile.motes mote a.boards
       → MoteCame why profile.motes (begins table profile.links stores origin clock seed
       (option_map (emptied profile.motes) a.link.inboxes))
-      (course done events left) a.boards b (length ticks ≡ turns)
+      (record { done = done; events = events; left = left }) a.boards b (length ticks ≡ turns)
   -- each event was at the mote, and there was no event if its board is not a volume
   pub own : AllByRecursion (IsEventAt mote) events
-  pub volumes : AllByRecursion (IsAtVolume a.boards) events
+  pub volumes : AllByRecursion (λ e. (d : Device) → slice_get a.boards (mote_of e) ≡ Some d → IsVolume d.image) events
   pub wrote : WroteTrace why profile events a.output b.output
   pub boards : BoardsEndure a.boards b.boards
   pub port : AtPort profile a.link b.link

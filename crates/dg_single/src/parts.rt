@@ -14,8 +14,7 @@ use dg_link::Link;
 use dg_netcfg::NetProfile;
 use dg_nor::Nor;
 use dg_rules::agreement_is_kept;
-use dg_script::Line;
-use dg_serve::{Service, Stop, hand_on, line_event, put, receive, write_event};
+use dg_serve::{Service, Stop, event_line, hand_on, put, receive};
 
 /// An event is applied at a mote: its line is written, and then what it sent is forwarded. Where there is no memory for the
 /// line, the event is not applied.
@@ -41,11 +40,9 @@ pub(crate) fn apply_event<K: Sink, N: Nor, L: Link>(
         (told, reached)) }
 {
     agreement_is_kept();
-    let line = Line::Happens(event);
-    write_event(&line, &mut service.text)?;
-    let borrowed = line_event(&line);
+    event_line(&event, &mut service.text)?;
     let now = service.timeline.moment;
-    let sent = play(service.motes.as_mut_slice(), mote, now, borrowed, board)?;
+    let sent = play(service.motes.as_mut_slice(), mote, now, &event, board)?;
     put(service.text.as_slice(), out)?;
     hand_on(profile, mote, &sent, link)?;
     Ok(())

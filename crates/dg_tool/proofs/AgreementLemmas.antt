@@ -11,7 +11,7 @@ use Rattle.dg_control.specs.declared.snapshot.Order.{Order}
 use Rattle.dg_object.specs.Object.{Row, row_of}
 use Rattle.dg_volume.specs.Acts.{Stops}
 use Rattle.dg_volume.specs.Agreement.{Agrees}
-use Rattle.dg_volume.specs.Changes.{inject_refusal}
+use Rattle.dg_volume.specs.Changes.{inject_refusal, order_refusal}
 use Rattle.dg_volume.specs.Shaped.{IsShaped}
 use Rattle.dg_volume.specs.Sizes.{images, old_form, new_form}
 use Rattle.dg_volume.specs.Stands.{Stands}
@@ -24,12 +24,13 @@ use Rattle.dg_outside.specs.Outside.{Outside}
 use Rattle.dg_end.specs.Lines.{Outcome}
 use Rattle.dg_end.specs.Writes.{CommandEnds}
 use Rattle.dg_end.specs.declared.ends.End.TheVariants as ends
-use Rattle.dg_tool.specs.Endings.{VerbEnding, Before, Reading, Acting, verb_by_boards, FirstAs, FirstInForm, content_in}
-use Rattle.dg_tool.specs.Verbs.{order_on, power_boot}
+use Rattle.dg_tool.specs.Endings.{VerbEnding, Before, Reading, Acting, FirstAs, FirstInForm, content_in}
+use Rattle.dg_tool.specs.inner.OnChip.{verb_by_boards}
+use Rattle.dg_tool.specs.Verbs.{order_by, power_boot}
 use Rattle.dg_tool.specs.Done.{verb_rule, Completed, VerbStopsOn, ActsAs, EndsAs, AtFirst, OnBoards, FirstDone, InputDone}
 use Rattle.dg_tool.specs.inner.OnChip.{CompletedOn, BootedOn, MigratedOn}
-use Rattle.dg_tool.specs.Agreement.{BoardAgrees, HasNewRow, KeepsAgreement}
-use Rattle.dg_tool.specs.Rules.{AnyTable, trail_rule, inject_rule, boot_rule, migrate_rule, InjectDone, OrderDone, BootDone, MigrateDone}
+use Rattle.dg_tool.specs.Agreement.{HasNewRow, KeepsAgreement}
+use Rattle.dg_tool.specs.Rules.{trail_rule, inject_rule, boot_rule, migrate_rule, InjectDone, OrderDone, BootDone, MigrateDone}
 use Rattle.dg_tool.proofs.BoardLemmas.{same_some}
 use Rattle.dg_tool.proofs.OutcomeLemmas.{acts_as, ends_as}
 
@@ -65,10 +66,14 @@ ends_some (Err (ends.BadLine number fault)) ending G h = acts_some ending G h.1
 ends_some (Err (ends.BadProfile fault)) ending G h = acts_some ending G h.1
 ends_some (Err (ends.Refused cause)) ending G h = acts_some ending G h.1
 
+-- a chip is a volume, and what it stands for agrees with a table
+abbrev BoardAgrees : List Row → (image : List ℕ) → Type 0
+BoardAgrees table image = (t : Store) × Stands image t × Agrees table t
+
 module _ (table : List Row) (t : Trail Store) (acted halted : Device → Device → Type 0) (old new : List Device) (a b : Device) (s : Store) (was : slice_get old 0 ≡ Some a) (is : slice_get new 0 ≡ Some b) (stands : Stands a.image s) (agrees : Agrees table s) (through : Through (Agrees table) t)
     (completes : acted a b → Completed t a b) (stops : halted a b → Stops t a b) where
   on_same : b.image ≡ a.image → BoardAgrees table b.image
-  on_same same = record { store = s; stands = subst (λ (c : List ℕ). Stands c s) (sym same) stands; agrees = agrees }
+  on_same same = (s, subst (λ (c : List ℕ). Stands c s) (sym same) stands, agrees)
 
   on_boards : new ≡ old → BoardAgrees table b.image
   on_boards same =
@@ -81,16 +86,12 @@ module _ (table : List Row) (t : Trail Store) (acted halted : Device → Device 
   on_acted : AtFirst acted old new → BoardAgrees table b.image
   on_acted x =
       let c = completes (x a b was is) in
-      record { store = last t; stands = c.stands; agrees = Through-last (Agrees table) t through }
+      (last t, c.stands, Through-last (Agrees table) t through)
 
   on_halted : AtFirst halted old new → BoardAgrees table b.image
   on_halted x =
       let h = stops (x a b was is) in
-      record {
-        store = h.leaves.store;
-        stands = h.leaves.stands_for;
-        agrees = Leaves-through IsNear (Agrees table) (near_agrees table) t h.done h.leaves.store through h.leaves.allowed;
-      }
+      (h.leaves.store, h.leaves.stands_for, Leaves-through IsNear (Agrees table) (near_agrees table) t h.done h.leaves.store through h.leaves.allowed)
 
   pub first_kept : (outcome : Outcome) (ending : VerbEnding) → EndsAs outcome ending (new ≡ old) (AtFirst Looked old new) (AtFirst acted old new) (AtFirst halted old new) → BoardAgrees table b.image
   first_kept outcome ending h =
@@ -119,7 +120,7 @@ boards_kept trail outcome ending acted halted failed suits old new shaped comple
 -- the same of a rule that is a trail
 pub trail_kept : (trail : Store → Trail Store) (outcome : Outcome) (ending : Option Store → VerbEnding) (failed : Type 0) (suits : List Row → Store → Type 0) (old new : List Device) → ShapedLaw
     → ((table : List Row) (s : Store) → IsShaped s → Agrees table s → suits table s → Through (Agrees table) (trail s))
-    → OnBoards outcome (trail_rule old ending trail) failed old new → KeepsAgreement suits old new
+    → OnBoards outcome (verb_rule (FirstAs old) ending (λ chip. CompletedOn trail chip) (λ chip. VerbStopsOn trail chip)) failed old new → KeepsAgreement suits old new
 trail_kept trail outcome ending failed suits old new shaped through h =
     boards_kept trail outcome ending (λ chip. CompletedOn trail chip) (λ chip. VerbStopsOn trail chip) failed suits old new shaped (λ s a b x. x) (λ s a b x. x) through h
 
@@ -150,16 +151,16 @@ inject_agrees law shaped image version name status a b known done =
 
 -- ---- orders, starts and migrations
 
-pub order_agrees : ((table : List Row) (s : Store) (o : Order) → Agrees table s → Through (Agrees table) (order_trail s o)) → ShapedLaw → (o : Order) (status : Status) (a b : Outside) → FirstDone status (trail_rule a.boards (order_on o) (λ s. order_trail s o)) a b → OrderDone o status a b
+pub order_agrees : ((table : List Row) (s : Store) (o : Order) → Agrees table s → Through (Agrees table) (order_trail s o)) → ShapedLaw → (o : Order) (status : Status) (a b : Outside) → FirstDone status (trail_rule a.boards (λ s. order_by o (order_refusal s o)) (λ s. order_trail s o)) a b → OrderDone o status a b
 order_agrees law shaped o status a b done = record {
   done = done;
-  agrees = trail_kept (λ s. order_trail s o) done.outcome _ _ AnyTable a.boards b.boards shaped (λ table s is agrees fits. law table s o agrees) done.allowed.0;
+  agrees = trail_kept (λ s. order_trail s o) done.outcome _ _ (λ table s. Unit {0}) a.boards b.boards shaped (λ table s is agrees fits. law table s o agrees) done.allowed.0;
 }
 
 pub boot_agrees : ((table : List Row) (s : Store) → Agrees table s → Through (Agrees table) (power_boot s).trail) → ShapedLaw → (status : Status) (a b : Outside) → FirstDone status (boot_rule a.boards) a b → BootDone status a b
 boot_agrees law shaped status a b done = record {
   done = done;
-  agrees = boards_kept (λ s. (power_boot s).trail) done.outcome _ (λ chip. BootedOn power_boot chip) (λ chip. VerbStopsOn (λ s. (power_boot s).trail) chip) _ AnyTable a.boards b.boards shaped (λ s c d x. x.went) (λ s c d x. x) (λ table s is agrees fits. law table s agrees) done.allowed.0;
+  agrees = boards_kept (λ s. (power_boot s).trail) done.outcome _ (λ chip. BootedOn power_boot chip) (λ chip. VerbStopsOn (λ s. (power_boot s).trail) chip) _ (λ table s. Unit {0}) a.boards b.boards shaped (λ s c d x. x.went) (λ s c d x. x) (λ table s is agrees fits. law table s agrees) done.allowed.0;
 }
 
 abbrev pub FormLaw : Type 0
@@ -170,11 +171,11 @@ first_in_form form [] a was h = tt
 first_in_form form (board ∷ boards) a was h = λ v. subst (λ (d : Device). HasForm d.image form) (sym (same_some board a was)) h
 
 module _ (law : (table : List Row) (form : ℕ) (s : Store) → Agrees table s → Through (Agrees table) (migrate_trail form s)) (shaped : ShapedLaw) (old new : List Device) (outcome : Outcome) where
-  by_form : (form : ℕ) → OnBoards outcome (migrate_rule old form) ⊥ old new → KeepsAgreement AnyTable old new
+  by_form : (form : ℕ) → OnBoards outcome (migrate_rule old form) ⊥ old new → KeepsAgreement (λ table s. Unit {0}) old new
   by_form form h =
-      boards_kept (λ s. migrate_trail form s) outcome _ (λ chip. MigratedOn form chip) (λ chip. VerbStopsOn (migrate_trail form) chip) _ AnyTable old new shaped (λ s x y k. k.went) (λ s x y k. k) (λ table s is agrees fits. law table form s agrees) h
+      boards_kept (λ s. migrate_trail form s) outcome _ (λ chip. MigratedOn form chip) (λ chip. VerbStopsOn (migrate_trail form) chip) _ (λ table s. Unit {0}) old new shaped (λ s x y k. k.went) (λ s x y k. k) (λ table s is agrees fits. law table form s agrees) h
 
-  pub any_form : FormLaw → ((form : ℕ) → FirstInForm form old → OnBoards outcome (migrate_rule old form) ⊥ old new) → KeepsAgreement AnyTable old new
+  pub any_form : FormLaw → ((form : ℕ) → FirstInForm form old → OnBoards outcome (migrate_rule old form) ⊥ old new) → KeepsAgreement (λ table s. Unit {0}) old new
   any_form forms h = λ a b was is table s stands agrees fits.
       ⊎_elim
       (λ has. by_form old_form (h old_form (first_in_form old_form old a was has)) a b was is table s stands agrees fits)

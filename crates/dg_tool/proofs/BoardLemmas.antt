@@ -1,5 +1,5 @@
 -- The first of the boards.
-use Rattle.std.proofs.Common.{◌≡◌, ℕ, ◌<◌, Bool, true, false, List, [], ◌∷◌, ◌++◌, length, take, map, get_or, set, Option, Some, Result, Err, IsErrAnd, refl, sym, ap, subst, ◌∙◌, inr, arith, cond}
+use Rattle.std.proofs.Common.{◌≡◌, ℕ, ◌<◌, Bool, true, false, List, [], ◌∷◌, ◌++◌, length, take, map, get_or, set, Option, Some, Result, Ok, Err, IsErrAnd, refl, sym, ap, subst, ◌∙◌, inr, arith, cond}
 use Rattle.std.specs.Prelude.{nat_lt, ◌==◌}
 use Rattle.std.proofs.lemmas.List.{take-append-le, take_all}
 use Rattle.std.proofs.lemmas.Bool.{eqb-false}
@@ -10,9 +10,10 @@ use Rattle.dg_volume.specs.Store.{Store}
 use Rattle.dg_end.specs.Lines.{Outcome, text_outcome}
 use Rattle.dg_end.specs.declared.ends.End.{End}
 use Rattle.dg_end.specs.declared.ends.End.TheVariants as ends
-use Rattle.dg_tool.specs.Endings.{VerbEnding, Before, outcome_of, verb_by_boards, StandsAs, FirstAs}
-use Rattle.dg_tool.specs.Done.{VerbRule, verb_rule, ActsAs, EndsAs, IsBefore, AtFirst, OnBoards}
-use Rattle.dg_tool.specs.inner.OneBoard.{OnBoard}
+use Rattle.dg_tool.specs.Endings.{VerbEnding, Before, outcome_of, StandsAs, FirstAs}
+use Rattle.dg_tool.specs.inner.OnChip.{verb_by_boards}
+use Rattle.dg_tool.specs.Done.{VerbRule, verb_rule, ActsAs, EndsAs, AtFirst, IsBoardStopped, OutcomeShows, OnBoards}
+use Rattle.dg_tool.specs.inner.OneBoard.{OnBoard, IsBefore, IsFound, IsOfVerb}
 use Rattle.dg_tool.proofs.OutcomeLemmas.{at_end, acts_as, ends_as}
 
 lt_true : (k n : ℕ) → k < n → nat_lt k n ≡ true
@@ -52,17 +53,32 @@ ends_first outcome ending acted halted d e ds h =
     (acts_as ending (e ≡ d) (Looked d e) (acted d e) (e ∷ ds ≡ d ∷ ds) (AtFirst Looked (d ∷ ds) (e ∷ ds)) (AtFirst acted (d ∷ ds) (e ∷ ds)) (inr (λ s. ap (λ (x : Device). x ∷ ds) s)) (at_first Looked d e ds) (at_first acted d e ds))
     (at_first Looked d e ds) (at_first halted d e ds) outcome (λ _ s. ap (λ (x : Device). x ∷ ds) s) h
 
+-- what an outcome shows, once the board was used
+shows_board : (outcome : Outcome) (F S R U : Type 0) → (IsFound outcome → F) → (outcome ≡ Err ends.FlashFault → S) → IsOfVerb outcome → (IsBefore outcome → ⊥) → OutcomeShows outcome F S R U
+shows_board (Ok text) F S R U found stops of_verb on_board = found tt
+shows_board (Err ends.Memory) F S R U found stops of_verb on_board = tt
+shows_board (Err ends.ReadFault) F S R U found stops of_verb on_board = absurd (on_board tt)
+shows_board (Err ends.WriteFault) F S R U found stops of_verb on_board = absurd of_verb
+shows_board (Err ends.FlashFault) F S R U found stops of_verb on_board = stops refl
+shows_board (Err ends.LinkFault) F S R U found stops of_verb on_board = absurd of_verb
+shows_board (Err ends.NotAVolume) F S R U found stops of_verb on_board = found tt
+shows_board (Err ends.NoImage) F S R U found stops of_verb on_board = found tt
+shows_board (Err ends.TooLong) F S R U found stops of_verb on_board = absurd (on_board tt)
+shows_board (Err ends.TooMany) F S R U found stops of_verb on_board = absurd of_verb
+shows_board (Err (ends.NoBoard need have)) F S R U found stops of_verb on_board = absurd (on_board tt)
+shows_board (Err (ends.BadHex fault)) F S R U found stops of_verb on_board = absurd (on_board tt)
+shows_board (Err (ends.BadLine number fault)) F S R U found stops of_verb on_board = absurd of_verb
+shows_board (Err (ends.BadProfile fault)) F S R U found stops of_verb on_board = absurd of_verb
+shows_board (Err (ends.Refused cause)) F S R U found stops of_verb on_board = found tt
+
 on_one : (failed : Type 0) (outcome : Outcome) (chips : Option Store → Type 0) (ending : Option Store → VerbEnding) (acted halted : Option Store → Device → Device → Type 0) (d e : Device) (ds : List Device) → OnBoard outcome (verb_rule chips ending acted halted) d e → OnBoards outcome (verb_rule chips ending acted halted) failed (d ∷ ds) (e ∷ ds)
 on_one failed outcome chips ending acted halted d e ds h = record {
   rules = λ chip stands.
       subst (λ (x : VerbEnding). EndsAs outcome x (e ∷ ds ≡ d ∷ ds) (AtFirst Looked (d ∷ ds) (e ∷ ds)) (AtFirst (acted chip) (d ∷ ds) (e ∷ ds)) (AtFirst (halted chip) (d ∷ ds) (e ∷ ds))) (sym (by_some (length (d ∷ ds)) (ending chip) (omega arith)))
       (ends_first outcome (ending chip) (acted chip) (halted chip) d e ds (h.rules chip stands));
-  found = h.found;
-  stops = λ s. record { before = d; after = e; was = refl; is = refl; stopped = h.stops s };
-  read = λ r. absurd (h.on_board (subst IsBefore (sym r) tt));
-  of_verb = h.of_verb;
-  first = record { count = refl; others = refl };
-  untouched = λ before. absurd (h.on_board before);
+  shows = shows_board outcome ((chip : Option Store) × chips chip) (AtFirst IsBoardStopped (d ∷ ds) (e ∷ ds)) failed (e ∷ ds ≡ d ∷ ds) h.found (λ s. at_first IsBoardStopped d e ds (h.stops s)) h.of_verb h.on_board;
+  count = refl;
+  others = refl;
 }
 
 pub on_first : {N : Type 0} (failed : Type 0) (f : N → Device) (items : List N) (x y : N) (outcome : Outcome) (ending : Option Store → VerbEnding) (acted halted : Option Store → Device → Device → Type 0) → 0 < length items
@@ -82,12 +98,9 @@ on_any failed f (z ∷ zs) x y outcome ending acted halted some h = on_one faile
 pub no_boards : {N : Type 0} (f : N → Device) (items : List N) (failed : Type 0) (chips : Option Store → Type 0) (ending : Option Store → VerbEnding) (acted halted : Option Store → Device → Device → Type 0) → length items ≡ 0 → OnBoards (Err (ends.NoBoard 1 0)) (verb_rule chips ending acted halted) failed (map f items) (map f items)
 no_boards f [] failed chips ending acted halted none = record {
   rules = λ chip _. let none : List Device = [] in (ap outcome_of (sym (by_none 0 (ending chip) refl)), subst (λ (x : VerbEnding). ActsAs x (none ≡ none) (AtFirst Looked none none) (AtFirst (acted chip) none none)) (sym (by_none 0 (ending chip) refl)) refl);
-  found = λ h. absurd h;
-  stops = λ s. cc;
-  read = λ s. cc;
-  of_verb = tt;
-  first = record { count = refl; others = refl };
-  untouched = λ _. refl;
+  shows = refl;
+  count = refl;
+  others = refl;
 }
 no_boards f (x ∷ xs) failed chips ending acted halted none = absurd (omega (arith, none))
 

@@ -22,7 +22,8 @@ use Rattle.dg_tool.specs.declared.input.ImageFault.{ImageFault}
 use Rattle.dg_tool.specs.Input.{ImageRead, end_of_image}
 use Rattle.dg_tool.specs.Rules.{trail_rule, inject_rule}
 use Rattle.dg_tool.specs.Endings.{FirstAs}
-use Rattle.dg_tool.specs.Verbs.{have_text, inject_ending_by, inject_into}
+use Rattle.dg_tool.specs.Verbs.{have_text, inject_ending_by}
+use Rattle.dg_tool.specs.inner.OnChip.{inject_into}
 use Rattle.dg_tool.specs.Done.{Completed, VerbStopsOn, NeedsBoard, NeedsInput, OnBoards, FedBoards}
 use Rattle.dg_tool.specs.inner.OnChip.{CompletedOn}
 use Rattle.dg_tool.specs.inner.OneBoard.{OnStore}
@@ -80,7 +81,7 @@ module _ (s : Store) (row : Row) (a b : Device) where
 
 -- an injection of the image that the input spells
 pub fed_inject : {N T : Type 0} (f : N → Device) (items : List N) (row : List ℕ → Row) (view : T → List ℕ) (image : T) (outcome : Outcome) (a b : InputState) (new : List Device) → 0 < length items → ImageRead view (Ok image) a b
-    → OnBoards outcome (trail_rule (map f items) (inject_into (row (view image))) (λ s. inject_trail s (row (view image)))) (Rose a.reads b.reads) (map f items) new → FedBoards outcome (inject_rule (map f items) row) a b (map f items) new
+    → OnBoards outcome (trail_rule (map f items) (λ s. inject_ending_by (row (view image)) (inject_refusal s (row (view image)))) (λ s. inject_trail s (row (view image)))) (Rose a.reads b.reads) (map f items) new → FedBoards outcome (inject_rule (map f items) row) a b (map f items) new
 fed_inject f items row view image outcome a b new some read did =
     fed (FirstAs (map f items)) (λ bytes chip. inject_into (row bytes) chip) (λ bytes. CompletedOn (λ s. inject_trail s (row bytes))) (λ bytes. VerbStopsOn (λ s. inject_trail s (row bytes))) (λ bytes chip. into_needs (row bytes) chip) view image outcome a b (map f items) new (some_mapped f items some) read did
 

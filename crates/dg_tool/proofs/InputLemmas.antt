@@ -15,7 +15,9 @@ use Rattle.dg_outside.specs.Outside.{InputState}
 use Rattle.dg_end.specs.Lines.{Outcome, text_outcome}
 use Rattle.dg_end.specs.declared.ends.End.{End}
 use Rattle.dg_end.specs.declared.ends.End.TheVariants as ends
-use Rattle.dg_tool.specs.Endings.{VerbEnding, Before, outcome_of, verb_by_boards, by_file, by_input, content_by, content_in}
+use Rattle.dg_tool.specs.Endings.{VerbEnding, Before, outcome_of, by_file, by_input, content_in}
+use Rattle.dg_tool.specs.inner.OnChip.{verb_by_boards}
+use Rattle.dg_tool.specs.inner.OnChip.{content_by}
 use Rattle.dg_tool.specs.Done.{VerbRule, verb_rule, ActsAs, NeedsInput, EndsAs, AtFirst, OnBoards, InputRead, FedBoards}
 use Rattle.dg_tool.specs.Input.{ReadsImage, ImageRead, end_of_image}
 use Rattle.dg_tool.specs.declared.input.ImageFault.{ImageFault}
@@ -128,39 +130,27 @@ module _ (chips : Option Store → Type 0) (next : List ℕ → Option Store →
     pub input_stays : (fault : ImageFault) (at_end failed : Type 0) → ReadsImage {T = ℕ} (λ n. []) (Err fault) bytes at_end failed → OnBoards (Err (end_of_image fault)) (fed_rule bytes) failed old old
     input_stays image_fault.Memory at_end failed h = record {
       rules = λ chip _. inl looked_none;
-      found = λ x. absurd x;
-      stops = λ e. cc;
-      read = λ e. cc;
-      of_verb = tt;
-      first = record { count = refl; others = refl };
-      untouched = λ _. refl;
+      shows = tt;
+      count = refl;
+      others = refl;
     }
     input_stays image_fault.ReadFault at_end failed h = record {
       rules = λ chip _. (subst NeedsInput (sym (found_board chip)) (by_needs (nat_lt most_input (length bytes)) (hex_file bytes) (λ image. next image chip) (λ image. needs image chip)), refl);
-      found = λ x. absurd x;
-      stops = λ e. cc;
-      read = λ _. h;
-      of_verb = tt;
-      first = record { count = refl; others = refl };
-      untouched = λ _. refl;
+      shows = (h, refl);
+      count = refl;
+      others = refl;
     }
     input_stays image_fault.TooLong at_end failed h = record {
       rules = λ chip _. before failed ends.TooLong (λ chip. by_over most_input bytes (λ image. next image chip) h.0) chip;
-      found = λ x. absurd x;
-      stops = λ e. cc;
-      read = λ e. cc;
-      of_verb = tt;
-      first = record { count = refl; others = refl };
-      untouched = λ _. refl;
+      shows = refl;
+      count = refl;
+      others = refl;
     }
     input_stays (image_fault.BadHex fault) at_end failed h = record {
       rules = λ chip _. before failed (ends.BadHex fault) (λ chip. input_fault bytes fault (λ image. next image chip) h.0 h.1) chip;
-      found = λ x. absurd x;
-      stops = λ e. cc;
-      read = λ e. cc;
-      of_verb = tt;
-      first = record { count = refl; others = refl };
-      untouched = λ _. refl;
+      shows = refl;
+      count = refl;
+      others = refl;
     }
 
     -- what is done with the image is done with the content of the input
@@ -169,12 +159,9 @@ module _ (chips : Option Store → Type 0) (next : List ℕ → Option Store →
         subst (λ (x : List ℕ). OnBoards outcome (verb_rule chips (λ chip. by_input bytes (λ i. next i chip)) (acted x) (halted x)) failed old new) (sym (ap content_by is))
         (record {
           rules = λ chip stands. subst (λ (x : VerbEnding). EndsAs outcome (verb_by_boards (length old) x) (new ≡ old) (AtFirst Looked old new) (AtFirst (acted image chip) old new) (AtFirst (halted image chip) old new)) (sym (input_image bytes image (λ i. next i chip) few is)) (h.rules chip stands);
-          found = h.found;
-          stops = h.stops;
-          read = h.read;
-          of_verb = h.of_verb;
-          first = h.first;
-          untouched = h.untouched;
+          shows = h.shows;
+          count = h.count;
+          others = h.others;
         })
 
   -- the input gave no image

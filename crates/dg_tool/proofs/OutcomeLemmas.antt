@@ -14,7 +14,8 @@ use Rattle.dg_end.specs.declared.ends.End.{End}
 use Rattle.dg_end.specs.declared.ends.End.TheVariants as ends
 use Rattle.dg_end.specs.declared.refusal.Refusal.{Refusal}
 use Rattle.dg_tool.specs.Endings.{VerbEnding, Before, Reading, Acting, outcome_of, by_store, StandsAs}
-use Rattle.dg_tool.specs.Done.{verb_rule, ActsAs, NeedsBoard, EndsAs, IsBefore, IsBoardStopped}
+use Rattle.dg_tool.specs.Done.{verb_rule, ActsAs, NeedsBoard, EndsAs, IsBoardStopped}
+use Rattle.dg_tool.specs.inner.OneBoard.{IsBefore}
 use Rattle.dg_tool.specs.inner.OneBoard.{OnStore, OnBoard}
 
 -- ---- the exit of a `?`

@@ -35,7 +35,8 @@ use Rattle.dg_tool.specs.declared.input.ImageFault.{ImageFault}
 use Rattle.dg_tool.specs.Input.{ImageRead, end_of_image}
 use Rattle.dg_tool.specs.Rules.{boot_rule, format_rule}
 use Rattle.dg_tool.specs.Endings.{VerbEnding, Before, Reading, Acting, by_store, StandsAs, FirstInForm}
-use Rattle.dg_tool.specs.Verbs.{room_text, format_sized, start_text, power_boot, start_by, form_text, migrate_by}
+use Rattle.dg_tool.specs.Verbs.{format_sized, start_text, power_boot, start_by, migrate_by}
+use Rattle.dg_tool.specs.inner.OnChip.{room_text, form_text}
 use Rattle.dg_tool.specs.inner.Started.{TellsStarted}
 use Rattle.dg_tool.specs.Done.{verb_rule, NeedsInput, NeedsBoard, VerbStopsOn, Booted, Migrated, IsFormatted, FormattingStops, IsBoardStopped, OnBoards, FedBoards}
 use Rattle.dg_tool.specs.inner.OnChip.{BootedOn}

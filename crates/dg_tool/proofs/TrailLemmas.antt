@@ -22,7 +22,8 @@ use Rattle.dg_end.specs.Conversions.{end_of_mount, end_of_order}
 use Rattle.dg_end.specs.declared.ends.End.TheVariants as ends
 use Rattle.dg_end.specs.declared.refusal.Refusal.TheVariants as refusals
 use Rattle.dg_tool.specs.Endings.{VerbEnding, by_store, StandsAs, FirstAs}
-use Rattle.dg_tool.specs.Verbs.{order_text, order_by}
+use Rattle.dg_tool.specs.Verbs.{order_by}
+use Rattle.dg_tool.specs.inner.OnChip.{order_text}
 use Rattle.dg_tool.specs.Done.{verb_rule, Completed, VerbStopsOn, NeedsBoard, OnBoards}
 use Rattle.dg_tool.specs.inner.OnChip.{CompletedOn}
 use Rattle.dg_tool.specs.inner.OneBoard.{OnStore}

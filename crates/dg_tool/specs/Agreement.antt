@@ -1,5 +1,5 @@
 -- A first board that agrees with a table of images, and how a verb leaves it (docs/COMMANDS.md, "Over one chip").
-use Rattle.std.specs.Prelude.{◌≡◌, ℕ, List, Some, None}
+use Rattle.std.specs.Prelude.{◌≡◌, List, Some, None}
 use Rattle.dg_nor.specs.Device.{Device}
 use Rattle.dg_object.specs.Object.{Row}
 use Rattle.dg_volume.specs.Agreement.{Agrees}
@@ -9,12 +9,6 @@ use Rattle.dg_volume.specs.Store.{Store}
 use Rattle.dg_volume.specs.Table.{row_at}
 use Rattle.dg_tool.specs.Done.{AtFirst}
 
--- a chip is a volume, and what it stands for agrees with a table
-pub record BoardAgrees (table : List Row) (image : List ℕ) : Type 0 where
-  pub store : Store
-  pub stands : Stands image store
-  pub agrees : Agrees table store
-
 -- an injection's row is in the table, unless the rules refuse the injection
 abbrev pub HasNewRow : Row → List Row → Store → Type 0
 HasNewRow row table s = inject_refusal s row ≡ None → row_at table row.image row.version ≡ Some row
@@ -23,4 +17,4 @@ HasNewRow row table s = inject_refusal s row ≡ None → row_at table row.image
 -- holds also if it is refused, if memory ran out or the write failed, and if the board stopped, in any of its operations.
 abbrev pub KeepsAgreement : (suits : List Row → Store → Type 0) → (old new : List Device) → Type 0
 KeepsAgreement suits old new = AtFirst (λ a b. (table : List Row) (s : Store) → Stands a.image s → Agrees table s → suits table s
-    → BoardAgrees table b.image) old new
+    → (t : Store) × Stands b.image t × Agrees table t) old new

@@ -1,6 +1,6 @@
 -- What a verb over the first board did (docs/COMMANDS.md, "Over one chip").
 use Rattle.std.specs.Prelude.{◌≡◌, ◌≢◌, ◌⊎◌, ℕ, ◌+◌, ◌<◌, ◌≤◌, true, List, [], length, drop, slice_get}
-use Rattle.std.specs.Prelude.{Option, Some, None, IfSome, Ok, Err}
+use Rattle.std.specs.Prelude.{nat_lt, if◌then◌else◌, Option, Some, None, IfSome, Ok, Err}
 use Rattle.dg_words.specs.Counts.{Rose}
 use Rattle.dg_base.specs.Sizes.{most_input}
 use Rattle.dg_base.specs.Outside.{Takes, AtEnd}
@@ -21,7 +21,7 @@ use Rattle.dg_outside.specs.Outside.{Outside, InputState}
 use Rattle.dg_end.specs.Lines.{Outcome}
 use Rattle.dg_end.specs.Writes.{CommandEnds}
 use Rattle.dg_end.specs.declared.ends.End.TheVariants as ends
-use Rattle.dg_tool.specs.Endings.{VerbEnding, Before, Reading, Acting, outcome_of, verb_by_boards}
+use Rattle.dg_tool.specs.Endings.{VerbEnding, Before, Reading, Acting, outcome_of}
 
 -- ---- acts on the first board
 
@@ -89,31 +89,6 @@ EndsAs outcome ending same looked acted halted = (outcome ≡ outcome_of ending)
 
 -- ---- outcomes
 
--- it was found before the board was used
-abbrev pub IsBefore : Outcome → Type 0
-IsBefore (Err ends.ReadFault) = Unit {0}
-IsBefore (Err ends.TooLong) = Unit {0}
-IsBefore (Err (ends.BadHex fault)) = Unit {0}
-IsBefore (Err (ends.NoBoard need have)) = Unit {0}
-IsBefore outcome = ⊥
-
--- what the board stands for was found
-abbrev pub IsFound : Outcome → Type 0
-IsFound (Ok text) = Unit {0}
-IsFound (Err ends.NotAVolume) = Unit {0}
-IsFound (Err ends.NoImage) = Unit {0}
-IsFound (Err (ends.Refused cause)) = Unit {0}
-IsFound outcome = ⊥
-
--- a verb over one board has no script, no profile and no link, and its one write comes last
-abbrev pub IsOfVerb : Outcome → Type 0
-IsOfVerb (Err ends.WriteFault) = ⊥
-IsOfVerb (Err ends.LinkFault) = ⊥
-IsOfVerb (Err ends.TooMany) = ⊥
-IsOfVerb (Err (ends.BadLine number fault)) = ⊥
-IsOfVerb (Err (ends.BadProfile fault)) = ⊥
-IsOfVerb outcome = Unit {0}
-
 -- ---- the rule of a verb
 
 -- What the rules say of a verb. `chips` are the stores that the board may stand for, with None if it is not a volume. How the
@@ -133,35 +108,35 @@ verb_rule chips ending acted halted = record { chips = chips; ending = ending; a
 abbrev pub AtFirst : (Device → Device → Type 0) → List Device → List Device → Type 0
 AtFirst P old new = (a b : Device) → slice_get old 0 ≡ Some a → slice_get new 0 ≡ Some b → P a b
 
--- no board but the first was used
-pub record OnlyFirst (old new : List Device) : Type 0 where
-  pub count : length new ≡ length old
-  pub others : drop 1 new ≡ drop 1 old
-
 -- the board is stopped, and why
 pub record IsBoardStopped (a b : Device) : Type 0 where
   pub stopped : b.stopped ≡ true
   pub cause : (a.stopped ≡ true) ⊎ Rose a.faults b.faults
 
--- the first board is stopped
-pub record FirstStopped (old new : List Device) : Type 0 where
-  pub before : Device
-  pub after : Device
-  pub was : slice_get old 0 ≡ Some before
-  pub is : slice_get new 0 ≡ Some after
-  pub stopped : IsBoardStopped before after
+-- What an outcome shows, whatever the board may stand for: that this was found, that the board stopped, that a read failed, or
+-- that the boards are unchanged. A verb over one board has no script, no profile and no link, and its one write comes last.
+abbrev pub OutcomeShows : Outcome → (found stopped read_failed same : Type 0) → Type 0
+OutcomeShows (Ok text) found stopped read_failed same = found
+OutcomeShows (Err ends.NotAVolume) found stopped read_failed same = found
+OutcomeShows (Err ends.NoImage) found stopped read_failed same = found
+OutcomeShows (Err (ends.Refused cause)) found stopped read_failed same = found
+OutcomeShows (Err ends.FlashFault) found stopped read_failed same = stopped
+OutcomeShows (Err ends.ReadFault) found stopped read_failed same = read_failed × same
+OutcomeShows (Err ends.TooLong) found stopped read_failed same = same
+OutcomeShows (Err (ends.BadHex fault)) found stopped read_failed same = same
+OutcomeShows (Err (ends.NoBoard need have)) found stopped read_failed same = same
+OutcomeShows (Err ends.Memory) found stopped read_failed same = Unit {0}
+OutcomeShows outcome found stopped read_failed same = ⊥
 
 -- What a verb with this rule did over boards. `read_failed` says that a read of the input failed.
 pub record OnBoards (outcome : Outcome) (rule : VerbRule) (read_failed : Type 0) (old new : List Device) : Type 0 where
   pub rules : (chip : Option Store) → rule.chips chip
-      → EndsAs outcome (verb_by_boards (length old) (rule.ending chip)) (new ≡ old) (AtFirst Looked old new)
-      (AtFirst (rule.acted chip) old new) (AtFirst (rule.halted chip) old new)
-  pub found : IsFound outcome → (chip : Option Store) × rule.chips chip
-  pub stops : outcome ≡ Err ends.FlashFault → FirstStopped old new
-  pub read : outcome ≡ Err ends.ReadFault → read_failed
-  pub of_verb : IsOfVerb outcome
-  pub first : OnlyFirst old new
-  pub untouched : IsBefore outcome → new ≡ old
+      → EndsAs outcome (if nat_lt 0 (length old) then rule.ending chip else Before (ends.NoBoard 1 0)) (new ≡ old)
+      (AtFirst Looked old new) (AtFirst (rule.acted chip) old new) (AtFirst (rule.halted chip) old new)
+  pub shows : OutcomeShows outcome ((c : Option Store) × rule.chips c) (AtFirst IsBoardStopped old new) read_failed (new ≡ old)
+  -- no board but the first was used
+  pub count : length new ≡ length old
+  pub others : drop 1 new ≡ drop 1 old
 
 -- ---- the input
 

@@ -1,5 +1,6 @@
 -- How a verb over the first board ends by the rules (docs/COMMANDS.md, "Over one chip").
-use Rattle.std.specs.Prelude.{ℕ, nat_lt, if◌then◌else◌, List, [], ◌∷◌, length, Option, Some, None, Result, Ok, Err}
+use Rattle.std.specs.Prelude.{ℕ, nat_lt, if◌then◌else◌, List, [], ◌∷◌, length, Option, Some, None, unwrap_or, Result, Ok, Err}
+use Rattle.std.specs.Result.{result_ok}
 use Rattle.dg_base.specs.Sizes.{most_input}
 use Rattle.dg_ihex.specs.Files.{hex_file}
 use Rattle.dg_ihex.specs.declared.faults.HexFileFault.{HexFileFault}
@@ -27,9 +28,6 @@ outcome_of (Acting outcome) = outcome
 
 -- ---- the order of causes: the board that is there, the input, and then what the board holds
 
-abbrev pub verb_by_boards : ℕ → VerbEnding → VerbEnding
-verb_by_boards boards next = if nat_lt 0 boards then next else Before (ends.NoBoard 1 0)
-
 abbrev pub by_file : Result (List ℕ) HexFileFault → (List ℕ → VerbEnding) → VerbEnding
 by_file (Ok image) next = next image
 by_file (Err fault) next = Before (ends.BadHex fault)
@@ -44,13 +42,9 @@ by_store (Some s) next = next s
 
 -- ---- what is given
 
-abbrev pub content_by : Result (List ℕ) HexFileFault → List ℕ
-content_by (Ok image) = image
-content_by (Err fault) = []
-
 -- the image of a HEX file, nothing if it is not one
 abbrev pub content_in : List ℕ → List ℕ
-content_in input = content_by (hex_file input)
+content_in input = unwrap_or (result_ok (hex_file input)) []
 
 -- what the bytes of a chip stand for, None if they are not a volume
 abbrev pub StandsAs : List ℕ → Option Store → Type 0

@@ -4,35 +4,31 @@ use Rattle.std.specs.Prelude.{ℕ, ◌==◌, ◌&&◌, ◌-◌, nat_lt, Bool, if
 use Rattle.std.specs.Prelude.{◌/◌, ◌%◌, Option, Some, None, Ok, Err}
 use Rattle.std.specs.List.{flat_map, range_with_len}
 use Rattle.dg_base.specs.Hexadecimal.{hex_text}
-use Rattle.dg_object.specs.Object.{Row, pages_for}
+use Rattle.dg_object.specs.Object.{Row, pages_for, content}
 use Rattle.dg_control.specs.declared.snapshot.Order.{Order}
 use Rattle.dg_slot.specs.Kept.{Held}
 use Rattle.dg_slot.specs.Layout.{most_bytes}
 use Rattle.dg_volume.specs.Sizes.{images, most_room, old_form, new_form}
 use Rattle.dg_volume.specs.Store.{Store, App, held}
 use Rattle.dg_volume.specs.Start.{Boot, Runs, boot, length_in, runs_length, runs_crc}
-use Rattle.dg_volume.specs.Changes.{inject_refusal, order_refusal}
 use Rattle.dg_volume.specs.declared.volume.StartCause.TheVariants as cause
 use Rattle.dg_volume.specs.declared.volume.InjectFault.{InjectFault}
 use Rattle.dg_volume.specs.declared.volume.OrderFault.{OrderFault}
 use Rattle.dg_ihex.specs.Written.{written_file}
 use Rattle.dg_end.specs.declared.refusal.Refusal.TheVariants as refusals
 use Rattle.dg_end.specs.Texts.{numbers, line}
-use Rattle.dg_tool.specs.Pages.{name_in, first_page, image_bytes}
+use Rattle.dg_tool.specs.Pages.{name_in, first_page}
 use Rattle.dg_end.specs.declared.ends.End.TheVariants as ends
 use Rattle.dg_end.specs.Conversions.{end_of_order, end_of_injection}
-use Rattle.dg_tool.specs.Endings.{VerbEnding, Before, Reading, Acting, by_store}
+use Rattle.dg_tool.specs.Endings.{VerbEnding, Before, Reading, Acting}
 
 -- ---- format
-
-abbrev pub room_text : ℕ → List ℕ
-room_text room = line (codes "room" ++ numbers (room ∷ []))
 
 abbrev pub format_sized : (used : ℕ) → (golden : List ℕ) → VerbEnding
 format_sized used golden =
     if length golden == 0 then Before (ends.Refused refusals.Empty)
     else if nat_lt most_bytes (length golden) then Before (ends.Refused (refusals.TooLarge (length golden)))
-    else Acting (Ok (room_text (most_room - used)))
+    else Acting (Ok (line (codes "room" ++ numbers ((most_room - used) ∷ []))))
 
 -- ---- inject
 
@@ -44,20 +40,11 @@ abbrev pub inject_ending_by : Row → Option InjectFault → VerbEnding
 inject_ending_by row None = Acting (Ok (have_text row))
 inject_ending_by row (Some fault) = Reading (end_of_injection (length row.bytes) fault)
 
-abbrev pub inject_into : Row → Option Store → VerbEnding
-inject_into row chip = by_store chip (λ s. inject_ending_by row (inject_refusal s row))
-
 -- ---- order
 
-abbrev pub order_text : Order → List ℕ
-order_text o = line (codes "order" ++ numbers (0 ∷ o.number ∷ o.image ∷ o.version ∷ []))
-
 abbrev pub order_by : Order → Option OrderFault → VerbEnding
-order_by o None = Acting (Ok (order_text o))
+order_by o None = Acting (Ok (line (codes "order" ++ numbers (0 ∷ o.number ∷ o.image ∷ o.version ∷ []))))
 order_by o (Some fault) = Reading (end_of_order fault)
-
-abbrev pub order_on : Order → Option Store → VerbEnding
-order_on o chip = by_store chip (λ s. order_by o (order_refusal s o))
 
 -- ---- boot
 
@@ -65,32 +52,22 @@ order_on o chip = by_store chip (λ s. order_by o (order_refusal s o))
 abbrev pub power_boot : Store → Boot
 power_boot s = boot cause.Power s
 
--- two bytes as four digits
-abbrev pub two_bytes : ℕ → List ℕ
-two_bytes n = hex_text (n / 256 ∷ n % 256 ∷ [])
-
 abbrev pub start_text : Runs → List ℕ
-start_text r = line (codes "start" ++ numbers (0 ∷ r.image ∷ r.version ∷ runs_length r ∷ []) ++ 32 ∷ two_bytes (runs_crc r))
+start_text r =
+    line (codes "start" ++ numbers (0 ∷ r.image ∷ r.version ∷ runs_length r ∷ [])
+    ++ 32 ∷ hex_text (runs_crc r / 256 ∷ runs_crc r % 256 ∷ []))
 
 abbrev pub start_by : Option Runs → VerbEnding
 start_by None = Acting (Err ends.NoImage)
 start_by (Some r) = Acting (Ok (start_text r))
 
-abbrev pub boot_on : Option Store → VerbEnding
-boot_on chip = by_store chip (λ s. start_by (power_boot s).runs)
-
 -- ---- migrate
-
-abbrev pub form_text : List ℕ
-form_text = line (codes "form" ++ numbers (new_form ∷ []))
 
 -- a chip of the older form takes one commit
 abbrev pub migrate_by : (form : ℕ) → Store → VerbEnding
 migrate_by form s =
-    if (form == old_form) && (s.room == 0) then Reading (ends.Refused (refusals.Worn s.room)) else Acting (Ok form_text)
-
-abbrev pub migrate_on : (form : ℕ) → Option Store → VerbEnding
-migrate_on form chip = by_store chip (migrate_by form)
+    if (form == old_form) && (s.room == 0) then Reading (ends.Refused (refusals.Worn s.room))
+    else Acting (Ok (line (codes "form" ++ numbers (new_form ∷ []))))
 
 -- ---- ping
 
@@ -122,22 +99,12 @@ commits_text s =
     program_line s.app ++ order_line s.order s.waived ++ line (codes "gesture" ++ numbers (s.gesture ∷ []))
     ++ line (codes "room" ++ numbers (s.room ∷ []))
 
--- the images after golden
-abbrev pub kept_lines : Store → List ℕ
-kept_lines s = flat_map (λ i. ping_line i (held s i)) (range_with_len 1 (images - 1))
-
 abbrev pub ping_text : Store → List ℕ
-ping_text s = golden_text (held s 0) ++ commits_text s ++ kept_lines s
-
-abbrev pub ping_on : Option Store → VerbEnding
-ping_on chip = by_store chip (λ s. Acting (Ok (ping_text s)))
+ping_text s = golden_text (held s 0) ++ commits_text s ++ flat_map (λ i. ping_line i (held s i)) (range_with_len 1 (images - 1))
 
 -- ---- dump
 
 abbrev pub dump_by : Option Held → VerbEnding
 dump_by None = Reading (ends.Refused refusals.Absent)
-dump_by (Some h) = if length h.complete == h.pages then Acting (Ok (written_file (image_bytes h)))
+dump_by (Some h) = if length h.complete == h.pages then Acting (Ok (written_file (content (length_in (first_page h)) h.complete)))
     else Reading (ends.Refused (refusals.NotWhole (length h.complete) h.pages))
-
-abbrev pub dump_on : (image : ℕ) → Option Store → VerbEnding
-dump_on image chip = by_store chip (λ s. dump_by (held s image))

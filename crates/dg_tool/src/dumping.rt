@@ -7,7 +7,7 @@ ghost use Rattle.dg_volume.specs.Store.{Store, held};
 ghost use Rattle.dg_volume.specs.Stands.{Mounted, IsMounted};
 ghost use Rattle.dg_volume.specs.Told.{told_held};
 ghost use Rattle.dg_end.specs.Lines.{text_outcome};
-ghost use Rattle.dg_tool.specs.Verbs.{dump_by, dump_on};
+ghost use Rattle.dg_tool.specs.Verbs.{dump_by};
 ghost use Rattle.dg_tool.specs.Done.{OnBoards};
 ghost use Rattle.dg_tool.specs.inner.OneBoard.{OnStore};
 ghost use Rattle.dg_tool.specs.Rules.{reading_rule};
@@ -60,7 +60,8 @@ fn dump_mounted<N: Nor>(
 /// The HEX file of an image on the first of the boards.
 pub(crate) fn dump_first<N: Nor>(alloc: Global, image: u8, boards: &mut [N]) -> Result<Vec<u8>, End>
     requires known_image { image < images }
-    ensures done { OnBoards (text_outcome (λ text. text.items) result) (reading_rule (map N.device boards.old) (dump_on image)) ⊥
+    ensures done { OnBoards (text_outcome (λ text. text.items) result)
+        (reading_rule (map N.device boards.old) (λ s. dump_by (held s image))) ⊥
         (map N.device boards.old) (map N.device boards.new) }
     ensures unchanged { map (λ board. (N.device board).image) boards.new ≡ map (λ board. (N.device board).image) boards.old }
 {

@@ -16,11 +16,15 @@ mod pages;
 mod pinging;
 mod starting;
 
-ghost use Rattle.std.specs.Prelude.{◌≡◌, ◌⊎◌, ◌≤◌, ◌<◌, map, IsTrue};
+ghost use Rattle.std.specs.Prelude.{◌≡◌, ◌⊎◌, ◌≤◌, ◌<◌, map, Ok, IsTrue};
 ghost use Rattle.dg_outside.specs.Outside.{Outside, with_input, with_output, with_boards};
 ghost use Rattle.dg_base.specs.Texts.{spells_name};
 ghost use Rattle.dg_volume.specs.Sizes.{images, most_room, old_form, new_form};
-ghost use Rattle.dg_tool.specs.Rules.{FormatDone, InjectDone, OrderDone, BootDone, PingDone, DumpDone, MigrateDone};
+ghost use Rattle.dg_volume.specs.Store.{held};
+ghost use Rattle.dg_tool.specs.Endings.{Acting};
+ghost use Rattle.dg_tool.specs.Verbs.{ping_text, dump_by};
+ghost use Rattle.dg_tool.specs.Done.{FirstDone, InputDone};
+ghost use Rattle.dg_tool.specs.Rules.{reading_rule, format_rule, InjectDone, OrderDone, BootDone, MigrateDone};
 
 use crate::dumping::dump_first;
 use crate::formatting::format_first;
@@ -53,7 +57,7 @@ pub fn format<S: Source, K: Sink, N: Nor>(
     requires named { IsTrue (spells_name name.now) }
     requires few { used ≤ most_room }
     requires known_form { (form ≡ old_form) ⊎ (form ≡ new_form) }
-    ensures does { (rest : Outside) → FormatDone name.now used form result
+    ensures does { (rest : Outside) → InputDone result (format_rule name.now used form)
         (with_boards (map N.device boards.old.items) (with_output (K.Sink, out.old) (with_input (S.Source, input.old) rest)))
         (with_boards (map N.device boards.new.items) (with_output (K.Sink, out.new) (with_input (S.Source, input.new) rest))) }
 {
@@ -119,7 +123,8 @@ pub fn boot<K: Sink, N: Nor>(alloc: Global, out: &mut K, boards: &mut Vec<N>) ->
 
 /// Reports what the first board keeps, and changes no byte.
 pub fn ping<K: Sink, N: Nor>(alloc: Global, out: &mut K, boards: &mut Vec<N>) -> Status
-    ensures does { (rest : Outside) → PingDone result
+    ensures does { (rest : Outside) → FirstDone result
+        (reading_rule (map N.device boards.old.items) (λ s. Acting (Ok (ping_text s))))
         (with_boards (map N.device boards.old.items) (with_output (K.Sink, out.old) rest))
         (with_boards (map N.device boards.new.items) (with_output (K.Sink, out.new) rest)) }
     ensures unchanged { map (λ board. (N.device board).image) boards.new.items
@@ -132,7 +137,8 @@ pub fn ping<K: Sink, N: Nor>(alloc: Global, out: &mut K, boards: &mut Vec<N>) ->
 /// Writes the image that a slot of the first board keeps whole as a HEX file, and changes no byte.
 pub fn dump<K: Sink, N: Nor>(alloc: Global, image: u8, out: &mut K, boards: &mut Vec<N>) -> Status
     requires image { image < images }
-    ensures does { (rest : Outside) → DumpDone image result
+    ensures does { (rest : Outside) → FirstDone result
+        (reading_rule (map N.device boards.old.items) (λ s. dump_by (held s image)))
         (with_boards (map N.device boards.old.items) (with_output (K.Sink, out.old) rest))
         (with_boards (map N.device boards.new.items) (with_output (K.Sink, out.new) rest)) }
     ensures unchanged { map (λ board. (N.device board).image) boards.new.items

@@ -1,9 +1,10 @@
 //! The verb `order`.
 ghost use Rattle.std.specs.Prelude.{◌≤◌, ◌<◌, map};
 ghost use Rattle.dg_volume.specs.Sizes.{images};
+ghost use Rattle.dg_volume.specs.Changes.{order_refusal};
 ghost use Rattle.dg_volume.specs.Trails.{order_trail};
 ghost use Rattle.dg_end.specs.Lines.{text_outcome};
-ghost use Rattle.dg_tool.specs.Verbs.{order_on};
+ghost use Rattle.dg_tool.specs.Verbs.{order_by};
 ghost use Rattle.dg_tool.specs.Done.{OnBoards};
 ghost use Rattle.dg_tool.specs.Rules.{trail_rule};
 
@@ -22,7 +23,8 @@ pub(crate) fn order_first<N: Nor>(
     requires image { order.now.image < images }
     requires version { 1 ≤ order.now.version }
     ensures { OnBoards (text_outcome (λ text. text.items) result)
-        (trail_rule (map N.device boards.old) (order_on order.now) (λ s. order_trail s order.now)) ⊥
+        (trail_rule (map N.device boards.old) (λ s. order_by order.now (order_refusal s order.now))
+        (λ s. order_trail s order.now)) ⊥
         (map N.device boards.old) (map N.device boards.new) }
 {
     if boards.is_empty() {

@@ -1,6 +1,6 @@
 //! The verb `ping`.
 ghost use Rattle.std.specs.Prelude.{◌≡◌, ◌≢◌, ◌≤◌, ◌<◌, ◌+◌, ◌-◌, ◌++◌, ◌∷◌, [], ℕ, List, Option, Some, OnOk, IfOk, codes, map};
-ghost use Rattle.std.specs.Prelude.{length, if◌then◌else◌};
+ghost use Rattle.std.specs.Prelude.{length, if◌then◌else◌, Ok};
 ghost use Rattle.std.specs.List.{flat_map, range_with_len};
 ghost use Rattle.dg_slot.specs.Kept.{Held, KeepsImage};
 ghost use Rattle.dg_volume.specs.Sizes.{images};
@@ -8,8 +8,9 @@ ghost use Rattle.dg_volume.specs.Store.{App, Store, held};
 ghost use Rattle.dg_volume.specs.Stands.{Mounted, IsMounted, Tells};
 ghost use Rattle.dg_volume.specs.Told.{told_held, program_told};
 ghost use Rattle.dg_end.specs.Texts.{numbers, line};
-ghost use Rattle.dg_tool.specs.Verbs.{program_line, order_line, commits_text, ping_line, kept_lines, ping_text};
-ghost use Rattle.dg_tool.specs.Verbs.{ping_on};
+ghost use Rattle.dg_tool.specs.Endings.{Acting};
+ghost use Rattle.dg_tool.specs.Verbs.{program_line, order_line, commits_text, ping_line, ping_text};
+ghost use Rattle.dg_tool.specs.inner.OnChip.{kept_lines};
 ghost use Rattle.dg_tool.specs.Done.{OnBoards};
 ghost use Rattle.dg_end.specs.Lines.{text_outcome};
 ghost use Rattle.dg_tool.specs.inner.OneBoard.{ReadsOn};
@@ -173,7 +174,8 @@ fn ping_mounted<N: Nor>(alloc: Global, nor: &mut N, volume: &Volume) -> Result<V
 
 /// Reports what the first of the boards keeps.
 pub(crate) fn ping_first<N: Nor>(alloc: Global, boards: &mut [N]) -> Result<Vec<u8>, End>
-    ensures done { OnBoards (text_outcome (λ text. text.items) result) (reading_rule (map N.device boards.old) ping_on) ⊥
+    ensures done { OnBoards (text_outcome (λ text. text.items) result)
+        (reading_rule (map N.device boards.old) (λ s. Acting (Ok (ping_text s)))) ⊥
         (map N.device boards.old) (map N.device boards.new) }
     ensures unchanged { map (λ board. (N.device board).image) boards.new ≡ map (λ board. (N.device board).image) boards.old }
 {

@@ -6,7 +6,8 @@ use Rattle.dg_words.proofs.ListLemmas.{length-tabulate}
 use Rattle.dg_object.specs.Object.{row_of}
 use Rattle.dg_script.specs.Contents.{generated, generated_byte}
 use Rattle.dg_script.specs.Places.{none_narrow}
-use Rattle.dg_trial.specs.Schedule.{size_by, row_by}
+use Rattle.dg_trial.specs.inner.Words.{size_by}
+use Rattle.dg_trial.specs.inner.Words.{row_by}
 use Rattle.std.specs.Prelude.{Some, slice_get, slice_index_or, codes, Result, Ok, Err}
 use Rattle.dg_end.specs.declared.ends.End.{End}
 use Rattle.dg_end.specs.declared.ends.End.TheVariants as ends

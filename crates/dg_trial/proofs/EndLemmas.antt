@@ -1,5 +1,5 @@
 -- How a trial ends.
-use Rattle.std.proofs.Common.{◌≡◌, ◌≢◌, ◌⊎◌, inl, inr, ⊎_elim, ℕ, ◌+◌, ◌-◌, ◌*◌, ◌≤◌, List, [], ◌∷◌, ◌++◌, codes, length, ap, sym, subst, ◌∙◌, append_assoc, arith}
+use Rattle.std.proofs.Common.{◌≡◌, refl, ◌≢◌, ◌⊎◌, inl, inr, ⊎_elim, ℕ, ◌+◌, ◌-◌, ◌*◌, ◌≤◌, List, [], ◌∷◌, ◌++◌, codes, length, ap, sym, subst, ◌∙◌, append_assoc, arith}
 use Rattle.std.specs.Prelude.{Option, Some, None, Result, Ok, Err, IfOk, OnErr}
 use Rattle.std.specs.Fmt.{decimal}
 use Rattle.dg_words.specs.Counts.{Rose}
@@ -12,13 +12,15 @@ use Rattle.dg_rules.specs.Sizes.{most_motes}
 use Rattle.dg_rules.specs.World.{World}
 use Rattle.dg_seed.specs.Draws.{first_generator}
 use Rattle.rand_pcg.specs.Pcg.{pcg32}
-use Rattle.dg_trial.specs.Trials.{summary_line, no_board_line, trial_text, trial_start, wholes, TrialRun, WholeLaw, TellsWhole, TrialComplete, TrialEnds, TrialPlayed, Unplayed}
+use Rattle.dg_trial.specs.Trials.{summary_line, trial_text, trial_start, wholes, TrialRun, WholeLaw, TellsWhole, TrialComplete, TrialEnds, TrialDone, TrialPlayed, Unplayed}
 use Rattle.dg_trial.specs.inner.Outcomes.{TrialOutcome, TellsTrial, TrialComesTo}
 use Rattle.dg_outside.specs.Outside.{Outside, OutputState}
 use Rattle.dg_end.specs.Lines.{Outcome, text_outcome, outcome_status, outcome_line}
 use Rattle.dg_end.specs.Writes.{WritesLast, WritesAnswer}
 use Rattle.dg_end.specs.declared.ends.End.{End}
 use Rattle.dg_end.specs.declared.ends.End.TheVariants as ends
+use Rattle.dg_end.proofs.AnswerLemmas.{answered_done}
+use Rattle.dg_end.proofs.CommandLemmas.{unread_ends}
 use Rattle.dg_trial.proofs.FitLemmas.{length-schedule}
 use Rattle.dg_trial.proofs.RunLemmas.{leads_events}
 use Rattle.dg_trial.proofs.TrialLemmas.{read_unread}
@@ -81,32 +83,24 @@ run_fails end motes pages seed old new enough h = absurd h
 abbrev pub standing : OutputState → List Device → Outside → Outside
 standing output boards rest = record rest { output = output; boards = boards }
 
--- the same without a rest
-abbrev pub alone : OutputState → Outside
-alone output = record { input = record { left = None; reads = 0 }; output = output; link = record { inboxes = None; failures = 0; port = None }; clock = None; boards = [] }
-
--- the outcome of a trial is written, and gives the status
-pub trial_ends : WholeLaw → (r : Status) (outcome : Outcome) (motes pages seed : ℕ) (a b : OutputState) (old new : List Device) (rest : Outside) → 2 ≤ motes → motes ≤ most_motes → 2 ≤ pages → pages ≤ 65 → TrialComesTo outcome motes pages seed old new
-    → WritesAnswer r outcome a b → TrialEnds r motes pages seed (standing a old rest) (standing b new rest)
-trial_ends law r (Ok text) motes pages seed a b old new rest some few some_pages few_pages comes h =
+-- a trial that was played to its end leaves the image whole everywhere
+pub whole_ends : WholeLaw → (outcome : Outcome) (motes pages seed : ℕ) (old new : List Device) → 2 ≤ motes → motes ≤ most_motes → 2 ≤ pages → pages ≤ 65 → TrialComesTo outcome motes pages seed old new
+    → TrialEnds outcome motes pages seed old new
+whole_ends law (Ok text) motes pages seed old new some few some_pages few_pages comes =
     let t = comes.1.0 in
     let all = law motes pages seed t.last some few some_pages few_pages t.run in
-    let E : Status → Type 0 = λ x. TrialEnds x motes pages seed (standing a old rest) (standing b new rest) in
-    let at = subst (λ (l : List ℕ). WritesLast r status.Done (Some l) a b) comes.1.1 h in
-    ⊎_elim (λ d. subst E (sym d.0) (record { boards = comes.0; played = t; kept = all.0; whole = all.1; written = d.1 }))
-    (λ x. ⊎_elim (λ w. subst E (sym w.0) (inl (record { boards = comes.0; played = t; written = w.1 })))
-    (λ m. subst E (sym m.0) (unread motes pages seed old new t, ap (λ (o : OutputState). o.written) m.1)) x) at
-trial_ends law r (Err ends.Memory) motes pages seed a b old new rest some few some_pages few_pages comes h =
-    subst (λ (x : Status). TrialEnds x motes pages seed (standing a old rest) (standing b new rest)) (sym h.0) (comes, ap (λ (o : OutputState). o.written) h.1)
-trial_ends law r (Err ends.FlashFault) motes pages seed a b old new rest some few some_pages few_pages comes h =
-    subst (λ (x : Status). TrialEnds x motes pages seed (standing a old rest) (standing b new rest)) (sym h.0) (comes.0, comes.1, ap (λ (o : OutputState). o.written) h.1)
-trial_ends law r (Err (ends.NoBoard need have)) motes pages seed a b old new rest some few some_pages few_pages comes h =
-    let E : Status → Type 0 = λ x. TrialEnds x motes pages seed (standing a old rest) (standing b new rest) in
-    let first = subst (λ (n : ℕ). WritesLast r status.NoBoard (Some (no_board_line n have)) a b) comes.1 h in
-    let at = subst (λ (n : ℕ). WritesLast r status.NoBoard (Some (no_board_line motes n)) a b) comes.2 first in
-    ⊎_elim (λ d. subst E (sym d.0) (comes.0, d.1))
-    (λ x. ⊎_elim (λ w. subst E (sym w.0) (inr (comes.0, w.1))) (λ m. subst E (sym m.0) (inl comes.0.same, ap (λ (o : OutputState). o.written) m.1)) x) at
-trial_ends law r (Err end) motes pages seed a b old new rest some few some_pages few_pages comes h = absurd comes
+    record { boards = comes.0; played = t; kept = all.0; whole = all.1; line = comes.1.1 }
+whole_ends law (Err ends.Memory) motes pages seed old new some few some_pages few_pages comes = comes
+whole_ends law (Err ends.FlashFault) motes pages seed old new some few some_pages few_pages comes = comes
+whole_ends law (Err (ends.NoBoard need have)) motes pages seed old new some few some_pages few_pages comes =
+    (comes.0.missing, comes.0.same, comes.1, comes.2)
+whole_ends law (Err end) motes pages seed old new some few some_pages few_pages comes = absurd comes
+
+-- the outcome of a trial is written, and gives the status
+pub trial_ends : (r : Status) (outcome : Outcome) (motes pages seed : ℕ) (a b : OutputState) (old new : List Device) (rest : Outside) → TrialEnds outcome motes pages seed old new
+    → WritesAnswer r outcome a b → a.writes ≤ b.writes → TrialDone motes pages seed r (standing a old rest) (standing b new rest)
+trial_ends r outcome motes pages seed a b old new rest comes h writes =
+    unread_ends r outcome (standing a old rest) (standing b new rest) h writes refl refl (λ o. TrialEnds o motes pages seed old new × (rest.input ≡ rest.input)) (comes, refl) refl
 
 -- a whole schedule has as many events as its motes and pages say
 pub counts_events : (motes pages seed : ℕ) (v : World) → 1 ≤ motes → TrialRun motes pages seed v → v.events ≡ event_count motes pages
@@ -119,14 +113,30 @@ counts_events motes pages seed v some run =
     omega (arith, played, count, sweeps)
 
 -- if it was played and reported, the line says that every mote keeps the image whole
-pub tells_whole : (r : Status) (motes pages seed : ℕ) (a b : OutputState) (old new : List Device) (rest : Outside) → 1 ≤ motes → TrialEnds r motes pages seed (standing a old rest) (standing b new rest) → r ≡ status.Done → TellsWhole motes pages a.written b.written
-tells_whole r motes pages seed a b old new rest some told is =
-    let d : TrialComplete motes pages seed (standing a old rest) (standing b new rest) = subst (λ (s : Status). TrialEnds s motes pages seed (standing a old rest) (standing b new rest)) is told in
+whole_told : (motes pages seed : ℕ) (a b : OutputState) (old new : List Device) (text : List ℕ) → 1 ≤ motes → TrialComplete text motes pages seed old new → Puts a.written b.written text → TellsWhole motes pages a.written b.written
+whole_told motes pages seed a b old new text some d put =
     let w = d.played.last in
-    let text : ℕ → ℕ → List ℕ = λ events whole. summary_line motes pages (sweep_count motes pages) events whole in
-    let counted : Puts a.written b.written (text (event_count motes pages) (wholes (row_of_seed pages seed) w)) =
-    subst (λ (n : ℕ). Puts a.written b.written (text n (wholes (row_of_seed pages seed) w))) (counts_events motes pages seed w some d.played.run) d.written in
-    subst (λ (n : ℕ). Puts a.written b.written (text (event_count motes pages) n)) d.whole counted
+    let line : ℕ → ℕ → List ℕ = λ events whole. summary_line motes pages (sweep_count motes pages) events whole in
+    let told : Puts a.written b.written (line w.events (wholes (row_of_seed pages seed) w)) = subst (λ (t : List ℕ). Puts a.written b.written t) d.line put in
+    let counted : Puts a.written b.written (line (event_count motes pages) (wholes (row_of_seed pages seed) w)) =
+    subst (λ (n : ℕ). Puts a.written b.written (line n (wholes (row_of_seed pages seed) w))) (counts_events motes pages seed w some d.played.run) told in
+    subst (λ (n : ℕ). Puts a.written b.written (line (event_count motes pages) n)) d.whole counted
+
+done_put : (a b : OutputState) (text : List ℕ) → WritesAnswer status.Done (Ok text) a b → Puts a.written b.written text
+done_put a b text h = ⊎_elim (λ d. d.1) (λ x. ⊎_elim (λ w. absurd (cut w.0)) (λ m. absurd (lost m.0)) x) h
+  where
+    cut : status.Done ≡ status.WriteFault → ⊥
+    cut e = cc
+
+    lost : status.Done ≡ status.Memory → ⊥
+    lost e = cc
+
+pub tells_whole : (r : Status) (outcome : Outcome) (motes pages seed : ℕ) (a b : OutputState) (old new : List Device) → 1 ≤ motes → TrialEnds outcome motes pages seed old new → WritesAnswer r outcome a b → r ≡ status.Done → TellsWhole motes pages a.written b.written
+tells_whole r outcome motes pages seed a b old new some comes h is =
+    let told : WritesAnswer status.Done outcome a b = subst (λ (s : Status). WritesAnswer s outcome a b) is h in
+    let x = answered_done outcome a b told in
+    whole_told motes pages seed a b old new x.0 some (subst (λ (o : Outcome). TrialEnds o motes pages seed old new) x.1 comes)
+    (done_put a b x.0 (subst (λ (o : Outcome). WritesAnswer status.Done o a b) x.1 told))
 
 pub summary_text : (t0 t1 t2 t3 t4 t5 t6 : List ℕ) (a b c d e m p s v w : ℕ) → t1 ≡ t0 ++ (codes "trial motes " ++ decimal a) → t2 ≡ t1 ++ (codes " pages " ++ decimal b) → t3 ≡ t2 ++ (codes " sweeps " ++ decimal c) → t4 ≡ t3 ++ (codes " events " ++ decimal d)
     → t5 ≡ t4 ++ (codes " whole " ++ decimal e) → t6 ≡ t5 ++ 10 ∷ [] → a ≡ m → b ≡ p → c ≡ s → d ≡ v → e ≡ w → t6 ≡ t0 ++ summary_line m p s v w

@@ -12,7 +12,8 @@ use Rattle.dg_rounds.specs.Rounds.{times, sweep, round, paced, passed}
 use Rattle.dg_script.specs.Ranges.{AreTwo, EventInRange, StepInRange}
 use Rattle.dg_rules.specs.Premises.{LinkFits}
 use Rattle.dg_completion.proofs.GrowLemmas.{all_append, all_replicate, all_times}
-use Rattle.dg_trial.specs.Schedule.{SchedulePart, always, line_links, resets, beside, cut_reset, disturbed_at, disturbances, opening}
+use Rattle.dg_trial.specs.Schedule.{SchedulePart, always, line_links, resets, beside, disturbed_at, disturbances, opening}
+use Rattle.dg_trial.specs.inner.Words.{cut_reset}
 use Rattle.dg_trial.specs.Playing.{PartFits}
 use Rattle.dg_world.specs.Alone.{uncut}
 

@@ -34,7 +34,9 @@ use Rattle.dg_script.specs.Ranges.{IsDeclared}
 use Rattle.dg_rules.specs.Premises.{WorldAgrees, IsHonestThen, TrueEvent}
 use Rattle.dg_rules.proofs.SiteLemmas.{site_there, site_other, site_count}
 use Rattle.dg_completion.specs.Completion.{page_count, pages_kept}
-use Rattle.dg_trial.specs.Schedule.{line_links, size_by, row_by}
+use Rattle.dg_trial.specs.Schedule.{line_links}
+use Rattle.dg_trial.specs.inner.Words.{size_by}
+use Rattle.dg_trial.specs.inner.Words.{row_by}
 use Rattle.dg_trial.specs.Playing.{golden, chip, first}
 use Rattle.dg_trial.proofs.BeginLemmas.{golden_is}
 use Rattle.dg_trial.proofs.FitLemmas.{line_fits}

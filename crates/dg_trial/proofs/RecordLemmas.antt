@@ -23,7 +23,10 @@ use Rattle.dg_world.specs.Worlds.{IsWorld}
 use Rattle.dg_world.specs.declared.world.World.{World as KeptWorld}
 use Rattle.dg_end.specs.declared.ends.End.{End}
 use Rattle.dg_end.specs.declared.ends.End.TheVariants as ends
-use Rattle.dg_trial.specs.Schedule.{SchedulePart, always, resets, beside, cut_reset, disturbed_at, disturbances, opening, rest_events, row_by, row_of_seed, shaking, size_by, sweep_count, line_links}
+use Rattle.dg_trial.specs.Schedule.{SchedulePart, always, resets, beside, disturbed_at, disturbances, opening, rest_events, row_of_seed, shaking, sweep_count, line_links}
+use Rattle.dg_trial.specs.inner.Words.{size_by}
+use Rattle.dg_trial.specs.inner.Words.{cut_reset}
+use Rattle.dg_trial.specs.inner.Words.{row_by}
 use Rattle.dg_trial.specs.Playing.{first, LeadsTo, LeadsBy, AddsSteps, FitsStep, MayPlayParts, MayPlayOver, OpenedAndRecorded, PartsPlay, PartsPlayedBy, PartsRecorded}
 use Rattle.dg_trial.specs.Trials.{trial_start, Formatted, TrialRecorded, RecordEnds, Unplayed}
 use Rattle.dg_trial.specs.inner.Outcomes.{FormatEnds, BeginEnds, ScheduleEnds}

@@ -24,7 +24,7 @@ use Rattle.dg_completion.specs.Met.{SpendLaw, commits_at}
 use Rattle.dg_completion.proofs.GrowLemmas.{rounds_free}
 use Rattle.dg_trial.specs.Schedule.{always, line_links}
 use Rattle.dg_trial.specs.Playing.{golden, LeadsTo}
-use Rattle.dg_trial.specs.Trials.{keeps_all}
+use Rattle.dg_trial.specs.inner.Words.{keeps_all}
 use Rattle.dg_trial.proofs.LineLemmas.{way_to, sweeps_few}
 use Rattle.dg_trial.proofs.InjectionLemmas.{row}
 

@@ -15,9 +15,11 @@ use Rattle.dg_script.specs.declared.report.Report.{Report}
 use Rattle.dg_rules.specs.World.{World, Running, Site, site, no_site}
 use Rattle.dg_rules.specs.Changes.{mote_line, kept_line, site_lines, final_lines}
 use Rattle.dg_completion.specs.Completion.{page_count}
-use Rattle.dg_trial.specs.Schedule.{size_by, row_by}
+use Rattle.dg_trial.specs.inner.Words.{size_by}
+use Rattle.dg_trial.specs.inner.Words.{row_by}
 use Rattle.dg_trial.specs.Lines.{tells_whole}
-use Rattle.dg_trial.specs.Trials.{keeps_all, wholes}
+use Rattle.dg_trial.specs.Trials.{wholes}
+use Rattle.dg_trial.specs.inner.Words.{keeps_all}
 
 -- how many lines of an option report a whole image
 told_in : ℕ → Option Report → ℕ

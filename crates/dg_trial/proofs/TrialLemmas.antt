@@ -18,10 +18,12 @@ use Rattle.dg_script.specs.Places.{none_narrow}
 use Rattle.dg_script.specs.declared.report.Report.{Report}
 use Rattle.dg_rules.specs.Changes.{final_lines}
 use Rattle.dg_trial.specs.Lines.{tells_whole}
-use Rattle.dg_trial.specs.Trials.{keeps_all, wholes}
+use Rattle.dg_trial.specs.Trials.{wholes}
+use Rattle.dg_trial.specs.inner.Words.{keeps_all}
 use Rattle.dg_trial.proofs.SummaryLemmas.{world_told, page_count_is}
 use Rattle.dg_seed.specs.Draws.{first_generator}
-use Rattle.dg_trial.specs.Schedule.{SchedulePart, always, line_links, resets, opening, disturbances, row_by, row_of_seed, schedule, sweep_count}
+use Rattle.dg_trial.specs.Schedule.{SchedulePart, always, line_links, resets, opening, disturbances, row_of_seed, schedule, sweep_count}
+use Rattle.dg_trial.specs.inner.Words.{row_by}
 use Rattle.dg_world.specs.Boards.{WorldStands}
 use Rattle.dg_trial.specs.Playing.{golden, chip, first, LeadsTo, MayPlayParts, PartsPlay, PartsBegun, StopsInPart, MayPlayOver}
 use Rattle.dg_trial.specs.Trials.{trial_start, Formatted, Front, TrialRun, StopsReading, Unplayed}

@@ -20,7 +20,9 @@ use Rattle.dg_completion.specs.Rests.{IsRest}
 use Rattle.dg_completion.specs.Completion.{newest, page_count, pages_kept, CompletionLaw}
 use Rattle.dg_completion.specs.Holders.{WithinLaw, EnoughLaw}
 use Rattle.dg_seed.specs.Draws.{first_generator}
-use Rattle.dg_trial.specs.Schedule.{SchedulePart, always, line_links, resets, beside, cut_reset, disturbed_at, disturbances, opening, schedule, sweep_count, row_by, row_of_seed}
+use Rattle.dg_trial.specs.Schedule.{SchedulePart, always, line_links, resets, beside, disturbed_at, disturbances, opening, schedule, sweep_count, row_of_seed}
+use Rattle.dg_trial.specs.inner.Words.{cut_reset}
+use Rattle.dg_trial.specs.inner.Words.{row_by}
 use Rattle.dg_trial.specs.Playing.{golden, chip, first, LeadsTo}
 use Rattle.dg_trial.specs.Trials.{AllKeep, WholeLaw, wholes}
 use Rattle.dg_trial.proofs.RunLemmas.{leads_apart, leads_sites}

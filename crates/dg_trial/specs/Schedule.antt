@@ -48,14 +48,6 @@ sweep_count motes pages = pages + motes - 2
 
 -- ---- what the draws of the seed choose
 
--- how many bytes the image has: some word makes the last page shorter
-abbrev pub size_by : (pages word : ℕ) → ℕ
-size_by pages word = (pages - 1) * page_size - word % page_size
-
--- the image
-abbrev pub row_by : (pages seed word : ℕ) → Row
-row_by pages seed word = row_of 1 1 (codes "trial") (generated (size_by pages word) seed)
-
 -- the next mote on the line, or the one before the last
 abbrev pub beside : (motes a : ℕ) → ℕ
 beside motes a = if a + 1 == motes then a - 1 else a + 1
@@ -65,10 +57,6 @@ abbrev pub drawn_cut : (w2 w3 : ℕ) → Cut
 drawn_cut w2 w3 =
     record { after = 1 + w2 % 64; mask = (w3 % 256) ∷ []; numbered = le-add_right 1 (w2 % 64); some = lit≤ tt; within = lit≤ tt }
 
--- A mote is reset, and its power is cut.
-abbrev pub cut_reset : (mote w2 w3 : ℕ) → Step
-cut_reset mote w2 w3 = record { event = Reset mote 0 w3; cut = Some (drawn_cut w2 w3) }
-
 -- Of eight disturbances at a mote four are ticks. In two it hears the last frame of the next mote, in one any frame that
 -- was sent, or one more, and in one it is reset and its power is cut.
 abbrev pub disturbed_at : (motes mote kind w2 w3 sent : ℕ) → Step
@@ -76,7 +64,7 @@ disturbed_at motes mote kind w2 w3 sent =
     if nat_lt kind 4 then uncut (Tick mote (w2 % 1024) w3)
     else if nat_lt kind 6 then uncut (Last (beside motes mote) mote (w2 % 1024) w3)
     else if kind == 6 then uncut (Hear mote 1 w3 (1 + w2 % (sent + 1)))
-    else cut_reset mote w2 w3
+    else record { event = Reset mote 0 w3; cut = Some (drawn_cut w2 w3) }
 
 -- the disturbance that three draws choose: the mote, the kind, and what else there is to choose
 abbrev pub disturbance : (motes w1 w2 w3 : ℕ) → SchedulePart
@@ -100,7 +88,9 @@ drawn (suc n) g = drawn n (pcg32 (pcg32 (pcg32 g).1).1).1
 
 -- the image that the first word of the seed chooses
 abbrev pub row_of_seed : (pages seed : ℕ) → Row
-row_of_seed pages seed = row_by pages seed (pcg32 (first_generator seed)).0
+row_of_seed pages seed =
+    let word = (pcg32 (first_generator seed)).0 in
+    row_of 1 1 (codes "trial") (generated ((pages - 1) * page_size - word % page_size) seed)
 
 -- each mote is started, and the image is injected into the first
 abbrev pub opening : (motes : ℕ) → List SchedulePart

@@ -1,12 +1,13 @@
 -- What a trial did, and what it reports (docs/COMMANDS.md, "Trial").
-use Rattle.std.specs.Prelude.{◌≡◌, ◌⊎◌, ℕ, ◌<◌, ◌≤◌, nat_le, Bool, false, List, [], ◌∷◌, ◌++◌, length, codes, slice_get, count_by}
-use Rattle.std.specs.Prelude.{Option, Some, Result, Ok, Err}
+use Rattle.std.specs.Prelude.{◌≡◌, ◌⊎◌, ℕ, ◌<◌, ◌≤◌, nat_le, false, List, [], ◌∷◌, ◌++◌, length, codes, slice_get, count_by}
+use Rattle.std.specs.Prelude.{replicate, Option, Some, Result, Ok, Err}
 use Rattle.std.specs.List.{AllByRecursion}
 use Rattle.std.specs.Fmt.{decimal}
-use Rattle.dg_base.specs.Outside.{Puts, PutsPrefix}
+use Rattle.dg_base.specs.Outside.{Puts}
 use Rattle.dg_base.specs.declared.answers.Status.{Status}
-use Rattle.dg_base.specs.declared.answers.Status.TheVariants.{Done, Memory, WriteFault, FlashFault, NoBoard}
 use Rattle.dg_nor.specs.Device.{Device}
+use Rattle.dg_end.specs.Lines.{Outcome}
+use Rattle.dg_end.specs.Writes.{CommandEnds}
 use Rattle.dg_end.specs.declared.ends.End.{End}
 use Rattle.dg_end.specs.declared.ends.End.TheVariants as ends
 use Rattle.dg_object.specs.Object.{Row, row_of}
@@ -14,35 +15,33 @@ use Rattle.dg_volume.specs.Store.{held, held_whole}
 use Rattle.dg_volume.specs.Stands.{Stands}
 use Rattle.dg_object.specs.Sizes.{most_pages}
 use Rattle.dg_rules.specs.Sizes.{most_motes}
-use Rattle.dg_rules.specs.World.{World, Site, store_at}
+use Rattle.dg_script.specs.Places.{none_narrow}
+use Rattle.dg_rules.specs.World.{World, Site, first_world, store_at}
 use Rattle.dg_completion.specs.Completion.{page_count, pages_kept}
 use Rattle.dg_world.specs.Counts.{NoneRose}
 use Rattle.dg_world.specs.Formatted.{FirstBoards, FormatStops}
-use Rattle.dg_end.specs.Texts.{numbers, line}
 use Rattle.dg_outside.specs.Outside.{Outside}
 use Rattle.dg_trial.specs.Schedule.{SchedulePart, line_links, row_of_seed, opening, shaking, schedule, sweep_count}
 use Rattle.dg_trial.specs.Schedule.{event_count}
 use Rattle.dg_trial.specs.declared.recording.TrialRecord.{TrialRecord}
 use Rattle.dg_world.specs.Boards.{WorldStands, BoardStopped}
-use Rattle.dg_trial.specs.Playing.{LeadsTo, LeadsBy, first, chip, PartsBegun, StopsInPart, FitsStep}
+use Rattle.dg_trial.specs.Playing.{LeadsTo, LeadsBy, golden, chip, PartsBegun, StopsInPart, FitsStep}
 
 -- ---- runs
 
 -- the world in which the trial of a seed begins
 abbrev pub trial_start : (motes pages seed : ℕ) → World
-trial_start motes pages seed = first motes (row_of_seed pages seed)
+trial_start motes pages seed =
+    let w = first_world (golden ∷ []) (line_links motes) none_narrow (replicate motes chip) in
+    record w { declared = row_of_seed pages seed ∷ [] }
 
 -- a whole trial leads to world v
 abbrev pub TrialRun : (motes pages seed : ℕ) → World → Type 0
 TrialRun motes pages seed v = LeadsTo (trial_start motes pages seed) (schedule motes pages seed) v
 
--- a site keeps all pages of a row
-abbrev pub keeps_all : Row → Site → Bool
-keeps_all row x = nat_le (page_count row) (pages_kept x.store row)
-
 -- how many motes keep all pages of a row
 abbrev pub wholes : Row → World → ℕ
-wholes row w = count_by (keeps_all row) w.sites
+wholes row w = count_by (λ (x : Site). nat_le (page_count row) (pages_kept x.store row)) w.sites
 
 -- every mote keeps a row whole, page by page
 abbrev pub AllKeep : ℕ → Row → World → Type 0
@@ -64,10 +63,6 @@ summary_line motes pages sweeps events whole =
 -- of a trial that leads to world v
 abbrev pub trial_text : (motes pages seed : ℕ) → World → List ℕ
 trial_text motes pages seed v = summary_line motes pages (sweep_count motes pages) v.events (wholes (row_of_seed pages seed) v)
-
--- there are fewer boards than motes
-abbrev pub no_board_line : (motes boards : ℕ) → List ℕ
-no_board_line motes boards = line (codes "noboard" ++ numbers (motes ∷ boards ∷ []))
 
 -- ---- what is done
 
@@ -108,7 +103,7 @@ Unplayed motes pages seed old new = (new ≡ old) ⊎ Front motes pages seed (λ
 -- a board stopped: in formatting, in a step, or in the reading at the end
 abbrev pub TrialBoardStops : (motes pages seed : ℕ) → (old new : List Device) → Type 0
 TrialBoardStops motes pages seed old new =
-    StopsFormatting motes old new ⊎ (Front motes pages seed (λ w left. StopsInPart w left old new)
+    ((board : ℕ) × FormatStops board motes chip old new) ⊎ (Front motes pages seed (λ w left. StopsInPart w left old new)
     ⊎ StopsReading motes pages seed old new)
 
 -- ---- how a trial ends
@@ -118,37 +113,32 @@ pub record TrialLacksBoards (motes : ℕ) (old new : List Device) : Type 0 where
   pub missing : length old < motes
   pub same : new ≡ old
 
--- The trial was played and reported, and every mote keeps the image whole.
-pub record TrialComplete (motes pages seed : ℕ) (a b : Outside) : Type 0 where
-  pub boards : motes ≤ length a.boards
-  pub played : TrialPlayed motes pages seed a.boards b.boards
+-- The trial was played to its end, every mote keeps the image whole, and this is its line.
+pub record TrialComplete (text : List ℕ) (motes pages seed : ℕ) (old new : List Device) : Type 0 where
+  pub boards : motes ≤ length old
+  pub played : TrialPlayed motes pages seed old new
   pub kept : AllKeep motes (row_of_seed pages seed) played.last
   pub whole : wholes (row_of_seed pages seed) played.last ≡ motes
-  pub written : Puts a.output.written b.output.written (trial_text motes pages seed played.last)
-
--- It was played, and its line was written in part.
-pub record TrialCut (motes pages seed : ℕ) (a b : Outside) : Type 0 where
-  pub boards : motes ≤ length a.boards
-  pub played : TrialPlayed motes pages seed a.boards b.boards
-  pub written : PutsPrefix a.output.written b.output.written (trial_text motes pages seed played.last)
+  pub line : text ≡ trial_text motes pages seed played.last
 
 -- the line of a trial in which every mote keeps the image whole. Its numbers follow from the motes and the pages
 abbrev pub TellsWhole : (motes pages : ℕ) → (before after : Option (List ℕ)) → Type 0
 TellsWhole motes pages before after =
     Puts before after (summary_line motes pages (sweep_count motes pages) (event_count motes pages) motes)
 
--- How a trial ends, by its status. Only a write that failed raises the count of failed writes.
-abbrev pub TrialEnds : Status → (motes pages seed : ℕ) → (a b : Outside) → Type 0
-TrialEnds Done motes pages seed a b = TrialComplete motes pages seed a b
-TrialEnds NoBoard motes pages seed a b =
-    TrialLacksBoards motes a.boards b.boards × Puts a.output.written b.output.written (no_board_line motes (length a.boards))
-TrialEnds WriteFault motes pages seed a b =
-    TrialCut motes pages seed a b ⊎ (TrialLacksBoards motes a.boards b.boards
-    × PutsPrefix a.output.written b.output.written (no_board_line motes (length a.boards)))
-TrialEnds FlashFault motes pages seed a b =
-    (motes ≤ length a.boards) × TrialBoardStops motes pages seed a.boards b.boards × (b.output.written ≡ a.output.written)
-TrialEnds Memory motes pages seed a b = Unplayed motes pages seed a.boards b.boards × (b.output.written ≡ a.output.written)
-TrialEnds status motes pages seed a b = ⊥
+-- how a trial ends: with its line, or without one
+abbrev pub TrialEnds : Outcome → (motes pages seed : ℕ) → (old new : List Device) → Type 0
+TrialEnds (Ok text) motes pages seed old new = TrialComplete text motes pages seed old new
+TrialEnds (Err ends.Memory) motes pages seed old new = Unplayed motes pages seed old new
+TrialEnds (Err ends.FlashFault) motes pages seed old new = (motes ≤ length old) × TrialBoardStops motes pages seed old new
+TrialEnds (Err (ends.NoBoard need have)) motes pages seed old new =
+    (length old < motes) × (new ≡ old) × (need ≡ motes) × (have ≡ length old)
+TrialEnds (Err end) motes pages seed old new = ⊥
+
+-- The schedule that the seed makes is played over the boards, and nothing is read.
+abbrev pub TrialDone : (motes pages seed : ℕ) → Status → Outside → Outside → Type 0
+TrialDone motes pages seed status a b =
+    CommandEnds status (λ outcome. TrialEnds outcome motes pages seed a.boards b.boards × (b.input ≡ a.input)) a b
 
 -- ---- a trial that is recorded
 

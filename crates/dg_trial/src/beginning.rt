@@ -9,7 +9,9 @@ ghost use Rattle.dg_script.specs.Places.{none_narrow};
 ghost use Rattle.dg_rules.specs.Sizes.{most_motes};
 ghost use Rattle.dg_rules.specs.World.{World as RuleWorld, first_world};
 ghost use Rattle.dg_world.specs.Worlds.{IsWorld};
-ghost use Rattle.dg_trial.specs.Schedule.{line_links, size_by, row_by};
+ghost use Rattle.dg_trial.specs.Schedule.{line_links};
+ghost use Rattle.dg_trial.specs.inner.Words.{size_by};
+ghost use Rattle.dg_trial.specs.inner.Words.{row_by};
 ghost use Rattle.dg_trial.specs.Playing.{golden, chip};
 ghost use Rattle.dg_trial.specs.inner.Outcomes.{FormatEnds, BeginEnds};
 

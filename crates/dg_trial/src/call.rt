@@ -10,7 +10,7 @@ ghost use Rattle.dg_rules.specs.World.{World as RuleWorld};
 ghost use Rattle.dg_world.specs.Worlds.{IsWorld};
 ghost use Rattle.dg_trial.specs.Schedule.{sweep_count};
 ghost use Rattle.dg_world.specs.Boards.{WorldStands};
-ghost use Rattle.dg_trial.specs.Trials.{TrialRun, TrialEnds, TellsWhole};
+ghost use Rattle.dg_trial.specs.Trials.{TrialRun, TrialDone, TellsWhole};
 ghost use Rattle.dg_trial.specs.inner.Outcomes.{ScheduleEnds, TrialOutcome, TrialComesTo};
 
 use crate::beginning::{Begun, begin};
@@ -155,7 +155,7 @@ pub fn trial<K: Sink, N: Nor>(
     requires few_pages { pages ≤ 65 }
     // The boards' stores are those at the end of a run of the schedule, every mote keeps the image whole, page by page, and the
     // line has the counts of that run. Each other status comes with its cause and with what it leaves.
-    ensures ends { (rest : Outside) → TrialEnds result motes pages seed
+    ensures ends { (rest : Outside) → TrialDone motes pages seed result
         (with_boards (map N.device boards.old.items) (with_output (K.Sink, out.old) rest))
         (with_boards (map N.device boards.new.items) (with_output (K.Sink, out.new) rest)) }
     // if it is played and reported, the line says that every mote keeps the image whole, and its number of events is the one for

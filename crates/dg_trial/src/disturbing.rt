@@ -1,7 +1,8 @@
 //! Disturbances: what draws choose to happen.
 ghost use Rattle.std.specs.Prelude.{◌≡◌, ◌+◌, ◌%◌, ◌<◌, ◌≤◌, ◌∷◌, [], IfOk};
 ghost use Rattle.dg_rules.specs.Sizes.{most_events, most_motes};
-ghost use Rattle.dg_trial.specs.Schedule.{beside, drawn_cut, cut_reset, disturbance};
+ghost use Rattle.dg_trial.specs.Schedule.{beside, drawn_cut, disturbance};
+ghost use Rattle.dg_trial.specs.inner.Words.{cut_reset};
 
 use dg_base::{Bytes, Cut, Event, Step};
 use std::alloc::{AllocError, Global};

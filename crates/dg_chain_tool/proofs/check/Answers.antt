@@ -6,8 +6,9 @@ use Rattle.dg_tool.specs.Done.{OnBoards}
 use Rattle.dg_tool.specs.Rules.{reading_rule}
 use Rattle.dg_tool.proofs.BoardLemmas.{lent_back}
 use Rattle.dg_tool.proofs.ToolLemmas.{first_done}
-use Rattle.dg_chain_tool.specs.Verbs.{check_on}
-use Rattle.dg_chain_tool.proofs.CheckLemmas.{done_fine, own_ending, told_by, done_rule, lent_same, some_boards}
+use Rattle.dg_volume.specs.Store.{held}
+use Rattle.dg_chain_tool.specs.Verbs.{check_by}
+use Rattle.dg_chain_tool.proofs.CheckLemmas.{done_fine, own_ending, told_by, never_read, done_rule, lent_same, some_boards}
 use Rattle.dg_chain_tool.proofs.check.Goals as goal
 
 pub returns-clause-does : goal.returns-clause-does
@@ -15,7 +16,7 @@ returns-clause-does g c = λ rest.
     let outcome = text_outcome (λ text. text.items) c.check_first-outcome.result in
     let lent = c.as_mut_slice.ensures in
     first_done _ outcome _ _ c.answer.ensures.ends c.answer.ensures.counts refl refl _
-    (lent_back g.N.Nor.device (λ old new. OnBoards outcome (reading_rule old (check_on c.args.image c.args.root.now)) ⊥ old new) c.args.boards.now.len
+    (lent_back g.N.Nor.device (λ old new. OnBoards outcome (reading_rule old (λ s. check_by c.args.root.now (held s c.args.image))) ⊥ old new) c.args.boards.now.len
     _ c.args.boards.now.items c.check_first-outcome.new.boards _ lent.value (omega (arith, c.check_first-outcome.auto.boards, lent.len)) c.check_first-outcome.ensures.done)
     refl
 
@@ -37,4 +38,5 @@ returns-clause-own g c = λ x s h payload root stands here some whole same.
     let lent = c.as_mut_slice.ensures in
     let d = rw lent.value at c.check_first-outcome.ensures.done in
     let pages = ap (λ (ps : List (List ℕ)). answer_of c.args.root.now ps) same ∙ ap (λ (r : List ℕ). answer_of r (chain x)) root ∙ c.a_root_names_its_pages.ensures.own x payload in
-    told_by c.answer.result _ _ (length x) _ _ _ _ _ _ (own_ending (length (map g.N.Nor.device c.args.boards.now.items)) c.args.image c.args.root.now s h (length x) (some_boards g.N.Nor.device c.args.boards.now.items some) here whole pages) (d.rules (Some s) stands) d.read c.answer.ensures.ends
+    told_by c.answer.result _ _ (length x) _ _ _ _ _ _ (own_ending (length (map g.N.Nor.device c.args.boards.now.items)) c.args.image c.args.root.now s h (length x) (some_boards g.N.Nor.device c.args.boards.now.items some) here whole pages) (d.rules (Some s) stands)
+    (never_read _ _ _ _ d) c.answer.ensures.ends

@@ -2,7 +2,7 @@
 use Rattle.std.specs.Prelude.{◌≡◌, ◌⊎◌, ℕ, ◌+◌, ◌<◌, ◌≤◌, Bool, true, false, List, [], ◌++◌, length, Result, Ok, Err, Some}
 use Rattle.dg_words.specs.Counts.{Rose}
 use Rattle.dg_base.specs.Outside.{Takes, Puts, PutsPrefix, AtEnd}
-use Rattle.dg_script.specs.LineReading.{Reading, HasNoEnd, FirstLine, Gives, IsAtEnd, IsTooLong, most_kept}
+use Rattle.dg_lines.specs.LineReading.{Reading, HasNoEnd, FirstLine, Gives, IsAtEnd, IsTooLong, most_kept}
 use Rattle.dg_script.specs.declared.fault.LineFault.TheVariants as fault
 use Rattle.dg_outside.specs.Outside.{InputState, OutputState}
 use Rattle.dg_end.specs.Lines.{Outcome}

@@ -22,7 +22,7 @@ use Rattle.dg_serial.specs.Line.{SerialItem, IsOnLine}
 use Rattle.dg_serial.specs.Reading.{FrameReading, reading_behind}
 use Rattle.dg_serial_base.specs.BaseEvents.{Base, At, BaseEvent, base_events_of_item, base_events_of, powered, power_effect}
 use Rattle.dg_serial_base.specs.BaseEvents.{effect_of, BaseEventsRun, line_sent}
-use Rattle.dg_serial_base.specs.Based.{IsPrefixOfInput}
+use Rattle.dg_serial_base.specs.inner.Words.{IsPrefixOfInput}
 use Rattle.dg_serial_base.specs.declared.timeline.Timeline.{Timeline}
 use Rattle.dg_serial_base.specs.declared.running.Running.{Running}
 use Rattle.dg_end.specs.declared.ends.End.{End}

@@ -1,6 +1,7 @@
 use Rattle.std.proofs.Common.{refl, arith}
 use Rattle.dg_end.specs.Lines.{text_outcome}
-use Rattle.dg_tool.specs.Verbs.{dump_on}
+use Rattle.dg_volume.specs.Store.{held}
+use Rattle.dg_tool.specs.Verbs.{dump_by}
 use Rattle.dg_tool.specs.Done.{OnBoards}
 use Rattle.dg_tool.specs.Rules.{reading_rule}
 use Rattle.dg_tool.proofs.BoardLemmas.{lent_back}
@@ -12,6 +13,6 @@ returns-clause-does g c = λ rest.
     let outcome = text_outcome (λ text. text.items) c.dump_first-outcome.result in
     let lent = c.as_mut_slice.ensures in
     first_done _ outcome _ _ c.answer.ensures.ends c.answer.ensures.counts refl refl _
-    (lent_back g.N.Nor.device (λ old new. OnBoards outcome (reading_rule old (dump_on c.args.image)) ⊥ old new) c.args.boards.now.len
+    (lent_back g.N.Nor.device (λ old new. OnBoards outcome (reading_rule old (λ s. dump_by (held s c.args.image))) ⊥ old new) c.args.boards.now.len
     _ c.args.boards.now.items c.dump_first-outcome.new.boards _ lent.value (omega (arith, c.dump_first-outcome.auto.boards, lent.len)) c.dump_first-outcome.ensures.done)
     refl

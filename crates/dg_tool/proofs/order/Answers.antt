@@ -1,6 +1,7 @@
 use Rattle.std.proofs.Common.{refl, arith}
 use Rattle.dg_volume.specs.Trails.{order_trail}
-use Rattle.dg_tool.specs.Verbs.{order_on}
+use Rattle.dg_volume.specs.Changes.{order_refusal}
+use Rattle.dg_tool.specs.Verbs.{order_by}
 use Rattle.dg_tool.specs.Done.{OnBoards}
 use Rattle.dg_tool.specs.Rules.{trail_rule}
 use Rattle.dg_end.specs.Lines.{text_outcome}
@@ -17,7 +18,7 @@ returns g c =
       does = λ rest.
           order_agrees c.trails_keep_agreement.ensures.order c.a_chip_stands_for_a_shaped_store.ensures c.args.order.now _ _ _
           (first_done _ outcome _ _ c.answer.ensures.ends c.answer.ensures.counts refl refl _
-          (lent_back g.N.Nor.device (λ old new. OnBoards outcome (trail_rule old (order_on c.args.order.now) (λ s. order_trail s c.args.order.now)) ⊥ old new) c.args.boards.now.len
+          (lent_back g.N.Nor.device (λ old new. OnBoards outcome (trail_rule old (λ s. order_by c.args.order.now (order_refusal s c.args.order.now)) (λ s. order_trail s c.args.order.now)) ⊥ old new) c.args.boards.now.len
           _ c.args.boards.now.items c.order_first-outcome.new.boards _ lent.value (omega (arith, c.order_first-outcome.auto.boards, lent.len)) c.order_first-outcome.ensures)
           refl);
     }

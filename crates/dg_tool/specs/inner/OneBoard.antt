@@ -7,7 +7,32 @@ use Rattle.dg_end.specs.Lines.{Outcome}
 use Rattle.dg_end.specs.declared.ends.End.{End}
 use Rattle.dg_end.specs.declared.ends.End.TheVariants as ends
 use Rattle.dg_tool.specs.Endings.{VerbEnding}
-use Rattle.dg_tool.specs.Done.{VerbRule, EndsAs, IsBefore, IsFound, IsOfVerb, IsBoardStopped}
+use Rattle.dg_tool.specs.Done.{VerbRule, EndsAs, IsBoardStopped}
+
+-- it was found before the board was used
+abbrev pub IsBefore : Outcome → Type 0
+IsBefore (Err ends.ReadFault) = Unit {0}
+IsBefore (Err ends.TooLong) = Unit {0}
+IsBefore (Err (ends.BadHex fault)) = Unit {0}
+IsBefore (Err (ends.NoBoard need have)) = Unit {0}
+IsBefore outcome = ⊥
+
+-- what the board stands for was found
+abbrev pub IsFound : Outcome → Type 0
+IsFound (Ok text) = Unit {0}
+IsFound (Err ends.NotAVolume) = Unit {0}
+IsFound (Err ends.NoImage) = Unit {0}
+IsFound (Err (ends.Refused cause)) = Unit {0}
+IsFound outcome = ⊥
+
+-- a verb over one board has no script, no profile and no link, and its one write comes last
+abbrev pub IsOfVerb : Outcome → Type 0
+IsOfVerb (Err ends.WriteFault) = ⊥
+IsOfVerb (Err ends.LinkFault) = ⊥
+IsOfVerb (Err ends.TooMany) = ⊥
+IsOfVerb (Err (ends.BadLine number fault)) = ⊥
+IsOfVerb (Err (ends.BadProfile fault)) = ⊥
+IsOfVerb outcome = Unit {0}
 
 -- reads of a board that is a volume
 abbrev pub ReadsOn : {T : Type 0} → Result T End → Device → Device → Type 0

@@ -4,7 +4,7 @@ use Rattle.dg_volume.specs.Changes.{FitAll}
 use Rattle.dg_chain.specs.Checking.{Break, first_break}
 use Rattle.dg_volume.specs.Filling.{new_row}
 use Rattle.dg_chain_tool.specs.inner.Filling.{fill_to, FillEnds}
-use Rattle.dg_chain_tool.specs.Receiving.{first_foreign, foreign_from}
+use Rattle.dg_chain_tool.specs.inner.Words.{first_foreign, foreign_from}
 use Rattle.dg_chain_tool.proofs.ReceiveLemmas.{from_some}
 use Rattle.dg_chain_tool.proofs.filling.receive_rest.Goals as goal
 

@@ -11,7 +11,7 @@ use Rattle.dg_volume.proofs.HeldLemmas.{held_paged}
 use Rattle.dg_volume.proofs.FillLemmas.{fit_next, fit_rest, object_drop}
 use Rattle.dg_volume.proofs.StoreLemmas.{one_store}
 use Rattle.dg_volume.specs.Filling.{new_row}
-use Rattle.dg_chain_tool.specs.Receiving.{foreign_from}
+use Rattle.dg_chain_tool.specs.inner.Words.{foreign_from}
 use Rattle.dg_chain_tool.proofs.FillLemmas.{break_above}
 use Rattle.dg_chain_tool.proofs.ReceiveLemmas.{whole_ends, whole_stops}
 use Rattle.dg_chain_tool.proofs.filling.receive_whole.Goals as goal

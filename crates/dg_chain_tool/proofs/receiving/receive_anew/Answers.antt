@@ -14,7 +14,7 @@ use Rattle.dg_volume.specs.Filling.{new_row}
 use Rattle.dg_chain_tool.specs.inner.Filling.{fill_to}
 use Rattle.dg_end.specs.Conversions.{end_of_take}
 use Rattle.dg_tool.proofs.OutcomeLemmas.{at_end}
-use Rattle.dg_chain_tool.specs.Receiving.{first_foreign}
+use Rattle.dg_chain_tool.specs.inner.Words.{first_foreign}
 use Rattle.dg_chain_tool.proofs.FillLemmas.{to_first}
 use Rattle.dg_chain_tool.proofs.ReceiveLemmas.{Received, received_whole, received_part, take_fails, take_free, anew_done, anew_fill, ends_then}
 use Rattle.dg_chain_tool.proofs.receiving.receive_anew.Goals as goal

@@ -7,7 +7,7 @@ use Rattle.dg_tool.proofs.BoardLemmas.{some_of}
 use Rattle.dg_tool.proofs.InputLemmas.{at_fed, fed_nothing}
 use Rattle.dg_tool.proofs.TrailLemmas.{trail_unmounted, trail_first}
 use Rattle.dg_chain_tool.specs.Receiving.{receive_trail}
-use Rattle.dg_chain_tool.specs.Verbs.{receive_to}
+use Rattle.dg_chain_tool.specs.inner.Words.{receive_to}
 use Rattle.dg_chain_tool.proofs.ReceiveLemmas.{receive_needs, receive_begins, fed_receive, unfed_receive}
 use Rattle.dg_chain_tool.proofs.receiving.receive_first.Goals as goal
 

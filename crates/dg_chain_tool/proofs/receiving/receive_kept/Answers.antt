@@ -13,7 +13,8 @@ use Rattle.dg_end.specs.declared.ends.End.TheVariants as ends
 use Rattle.dg_tool.proofs.OutcomeLemmas.{at_end}
 use Rattle.dg_volume.specs.Filling.{new_row}
 use Rattle.dg_chain_tool.specs.inner.Filling.{fill_to}
-use Rattle.dg_chain_tool.specs.Receiving.{first_foreign, receive_trail}
+use Rattle.dg_chain_tool.specs.Receiving.{receive_trail}
+use Rattle.dg_chain_tool.specs.inner.Words.{first_foreign}
 use Rattle.dg_chain_tool.proofs.ReceiveLemmas.{Received, received_refused, received_whole, received_part, received_stops, receive_begins, kept_done, kept_is, ends_looked}
 use Rattle.dg_chain_tool.proofs.receiving.receive_kept.Goals as goal
 

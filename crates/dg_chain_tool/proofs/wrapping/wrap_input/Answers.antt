@@ -6,7 +6,8 @@ use Rattle.dg_end.specs.Texts.{line}
 use Rattle.dg_end.specs.Conversions.{end_of_wrap}
 use Rattle.dg_end.specs.declared.ends.End.TheVariants as ends
 use Rattle.dg_tool.specs.Input.{end_of_image}
-use Rattle.dg_chain_tool.specs.Verbs.{wrap_by, wrapped_text}
+use Rattle.dg_chain_tool.specs.Verbs.{wrap_by}
+use Rattle.dg_chain_tool.specs.inner.Words.{wrapped_text}
 use Rattle.dg_chain_tool.proofs.WrapLemmas.{fed_none, fed_wants, fed_made, fed_fault, at_text}
 use Rattle.dg_chain_tool.proofs.wrapping.wrap_input.Goals as goal
 

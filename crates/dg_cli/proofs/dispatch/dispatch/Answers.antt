@@ -1,7 +1,7 @@
 use Rattle.std.proofs.Common.{refl, map}
 use Rattle.dg_outside.specs.Outside.{input_of, output_of, link_state, outside}
-use Rattle.dg_cli.proofs.DispatchLemmas.{said_done, format_said, inject_said, receive_said, check_said, no_link_of_a_trial}
-use Rattle.dg_cli.proofs.VerbLemmas.{no_link_first, no_link_input, no_link_wrap}
+use Rattle.dg_cli.proofs.DispatchLemmas.{said_done, format_said, inject_said, receive_said, check_said}
+use Rattle.dg_cli.proofs.VerbLemmas.{no_link_first, no_link_input, no_link_trial, no_link_wrap}
 use Rattle.dg_cli.proofs.DripLemmas.{no_link_of_nodes}
 use Rattle.dg_cli.proofs.dispatch.dispatch.Goals as goal
 
@@ -101,10 +101,10 @@ returns-in-Migrate-clause-writes g c = (c.migrate.ensures.does (outside (input_o
 
 pub returns-in-Trial-clause-done : goal.returns-in-Trial-clause-done
 returns-in-Trial-clause-done g c =
-    said_done c.args.command.now _ c.in-Trial.is _ _ _ (refl, c.trial.ensures.ends (outside (input_of (g.S.Source, c.args.input.now)) (output_of (g.K.Sink, c.args.out.now)) (link_state (g.L.Link, c.args.link.now)) (g.C.Clock.told c.args.clock.now) (map g.N.Nor.device c.args.boards.now.items)), c.trial.ensures.cause, c.trial.ensures.unfailed)
+    said_done c.args.command.now _ c.in-Trial.is _ _ _ (c.trial.ensures.ends (outside (input_of (g.S.Source, c.args.input.now)) (output_of (g.K.Sink, c.args.out.now)) (link_state (g.L.Link, c.args.link.now)) (g.C.Clock.told c.args.clock.now) (map g.N.Nor.device c.args.boards.now.items)))
 
 pub returns-in-Trial-clause-link_fault : goal.returns-in-Trial-clause-link_fault
-returns-in-Trial-clause-link_fault g c = λ e. absurd (no_link_of_a_trial _ c.in-Trial.motes c.in-Trial.pages c.in-Trial.seed _ _ (c.trial.ensures.ends (outside (input_of (g.S.Source, c.args.input.now)) (output_of (g.K.Sink, c.args.out.now)) (link_state (g.L.Link, c.args.link.now)) (g.C.Clock.told c.args.clock.now) (map g.N.Nor.device c.args.boards.now.items))) e)
+returns-in-Trial-clause-link_fault g c = λ e. absurd (no_link_trial c.in-Trial.motes c.in-Trial.pages c.in-Trial.seed _ _ _ (c.trial.ensures.ends (outside (input_of (g.S.Source, c.args.input.now)) (output_of (g.K.Sink, c.args.out.now)) (link_state (g.L.Link, c.args.link.now)) (g.C.Clock.told c.args.clock.now) (map g.N.Nor.device c.args.boards.now.items))) e)
 
 pub returns-in-Wrap-clause-done : goal.returns-in-Wrap-clause-done
 returns-in-Wrap-clause-done g c =

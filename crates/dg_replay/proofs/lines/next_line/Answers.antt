@@ -1,5 +1,13 @@
-use Rattle.dg_replay.proofs.TextLemmas.{not_read, memory_or}
+use Rattle.dg_script.specs.declared.line.Line.TheVariants.{Happens as EventLine}
 use Rattle.dg_replay.proofs.lines.next_line.Goals as goal
 
-pub returns-in-Err : goal.returns-in-Err
-returns-in-Err c = not_read c.args.place.now c.args.text.now c.args.number c.stop_at.result c.in-Err.fault (memory_or c.in-Err.fault) c.stop_at.ensures c.in-Err.ensures.read
+pub returns-in-Some : goal.returns-in-Some
+returns-in-Some c =
+    let law = c.what_is_spelled_fits.ensures in
+    let line = EventLine c.in-Some.event in
+    record {
+      spelled = c.in-Some.ensures;
+      stands = law.stands c.args.place.now c.args.text.now line c.in-Some.ensures;
+      fits = law.fits c.args.place.now c.args.text.now line c.in-Some.ensures;
+      played = law.played c.args.place.now c.args.text.now line c.in-Some.ensures;
+    }

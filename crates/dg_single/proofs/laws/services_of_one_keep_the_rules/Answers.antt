@@ -4,8 +4,9 @@ use Rattle.std.specs.List.{AllByRecursion}
 use Rattle.dg_link.specs.Inboxes.{emptied}
 use Rattle.dg_rules.specs.World.{World, first_world}
 use Rattle.dg_rules.specs.Begins.{StoresAgree, PlaysBoards}
-use Rattle.dg_serve.specs.Services.{course}
-use Rattle.dg_serve.specs.Endings.{begins, remains}
+use Rattle.dg_serve.specs.inner.Stretches.{course}
+use Rattle.dg_serve.specs.Endings.{begins}
+use Rattle.dg_serve.specs.inner.Stretches.{remains}
 use Rattle.dg_serve.specs.Promised.{RunOf, ServedFirst}
 use Rattle.dg_serve.proofs.HonestLemmas.{HonestAlone, IsHonestSo, none_waits, parts_honest, next_honest, played_honest}
 use Rattle.dg_script.specs.Ranges.{EventInRange}
@@ -41,11 +42,13 @@ returns-clause-kept c = λ answer profile mote seed turns a b allowed known x ta
       run = run;
       honest = λ told agree. record { agree = agree; hold = played_honest table x.run.events run.played first came.last.world run.items run.plays refl (so told agree).0 };
       next = λ told agree part dt word bytes after takes. next_honest c.agreement_is_kept.ensures.stepped table profile.motes part dt word bytes came.last after (so told agree).1 takes;
-      legal = λ f h. rules.legal table stores profile.links none_narrow f.first f.last (part f) h.agree h.hold;
-      keeps = λ f h. rules.keeps table stores profile.links none_narrow f.first f.last (part f) h.agree h.hold;
-      starts = λ f h. rules.starts table stores profile.links none_narrow f.first f.last (part f) h.agree h.hold;
-      agrees = λ f h. rules.agrees table stores profile.links none_narrow f.first f.last (part f) h.agree h.hold;
-      halves = λ f e h fits_range holds. rules.halves table stores profile.links none_narrow f.first f.last e (part f) h.agree h.hold (subst (λ n. EventInRange n e) (sym fits.count) fits_range) holds;
+      honestly = λ f h. record {
+        legal = rules.legal table stores profile.links none_narrow f.first f.last (part f) h.agree h.hold;
+        keeps = rules.keeps table stores profile.links none_narrow f.first f.last (part f) h.agree h.hold;
+        starts = rules.starts table stores profile.links none_narrow f.first f.last (part f) h.agree h.hold;
+        agrees = rules.agrees table stores profile.links none_narrow f.first f.last (part f) h.agree h.hold;
+        halves = λ e fits_range holds. rules.halves table stores profile.links none_narrow f.first f.last e (part f) h.agree h.hold (subst (λ n. EventInRange n e) (sym fits.count) fits_range) holds;
+      };
       consistent = λ golden stands. stays_consistent any golden profile.motes table stores profile.links run.played came.last.world fits.count stands run.plays run.ranges;
       golden = λ stands. stays_golden finds profile.motes table stores profile.links run.played came.last.world fits.count stands run.plays run.ranges;
     }

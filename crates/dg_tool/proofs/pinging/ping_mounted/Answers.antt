@@ -1,7 +1,8 @@
 use Rattle.std.proofs.Common.{◌≡◌, ℕ, List, [], ◌++◌, ap, ◌∙◌, rules}
 use Rattle.dg_volume.specs.Store.{held}
 use Rattle.dg_boot.proofs.BootLemmas.{mounted_looked}
-use Rattle.dg_tool.specs.Verbs.{commits_text, kept_lines}
+use Rattle.dg_tool.specs.inner.OnChip.{kept_lines}
+use Rattle.dg_tool.specs.Verbs.{commits_text}
 use Rattle.dg_tool.proofs.ReadLemmas.{reads_err, reads_wants}
 use Rattle.dg_end.proofs.TextLemmas.{behind_none}
 use Rattle.dg_tool.proofs.KeptLemmas.{golden_here, golden_line}

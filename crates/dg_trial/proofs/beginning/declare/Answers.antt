@@ -4,7 +4,7 @@ use Rattle.std.proofs.lemmas.Result.{err_from_is_err_and}
 use Rattle.dg_object.specs.Object.{Row, row_of}
 use Rattle.dg_rules.specs.World.{World}
 use Rattle.dg_world.specs.Worlds.{IsWorld}
-use Rattle.dg_trial.specs.Schedule.{row_by}
+use Rattle.dg_trial.specs.inner.Words.{row_by}
 use Rattle.dg_trial.proofs.BeginLemmas.{declared_first, not_taken, content_fits, out_of_memory, row_is}
 use Rattle.dg_trial.proofs.beginning.declare.Goals as goal
 

@@ -1,6 +1,7 @@
 use Rattle.std.proofs.Common.{◌∷◌, [], List, ℕ, refl, ap, true}
 use Rattle.dg_drip.specs.Spread.{drip_round, sweeps}
-use Rattle.dg_drip_script.specs.Scripts.{unreported_items, rounds_items, with_items, begun_script}
+use Rattle.dg_drip_script.specs.Scripts.{unreported_items, with_items, begun_script}
+use Rattle.dg_drip_script.specs.Scripts.{rounds_items}
 use Rattle.dg_drip_script.specs.declared.line.DripLine.TheVariants.{Event as EventLine, Round, Sweeps}
 use Rattle.dg_drip_run.proofs.ApplyLemmas.{links_of_player}
 use Rattle.dg_drip_run.proofs.LineLemmas.{begun_playing, events_played}

@@ -10,7 +10,7 @@ use Rattle.dg_replay.specs.Items.{beginning_of}
 use Rattle.dg_replay.specs.Shown.{stores_in, events_played}
 use Rattle.dg_replay.proofs.SeenLemmas.{reached_unseen, script_seen}
 use Rattle.dg_replay.proofs.WayLemmas.{replay_ended, replay_seen, stopped_unfailed}
-use Rattle.dg_replay.proofs.call.replay_watched.Goals as goal
+use Rattle.dg_replay.proofs.call.replay.Goals as goal
 
 pub end_script-requires : goal.end_script-requires
 end_script-requires g c =
