@@ -12,7 +12,8 @@ use Rattle.dg_ihex.specs.declared.record.Record.{Record}
 use Rattle.dg_ihex.specs.declared.record.Record.TheVariants as records
 use Rattle.dg_ihex.specs.Sizes.{longest_image}
 use Rattle.dg_ihex.specs.Blocks.{Block, overlaps, span_of}
-use Rattle.dg_ihex.specs.Files.{base_behind, base_of, block_of, blocks_over, blocks_of, is_end, has_end, first_cause, cause_of_blocks, cause_behind, record_in, records_of, judged, to_list, cause_of}
+use Rattle.dg_ihex.specs.Files.{base_behind, base_of, block_of, blocks_over, blocks_of, is_end, has_end, first_cause, cause_of_blocks, cause_behind, record_in, records_of, judged, cause_of}
+use Rattle.dg_ihex.specs.inner.Words.{to_list}
 use Rattle.dg_ihex.specs.Records.{record_of}
 use Rattle.dg_ihex.specs.Reading.{Refuses, RefusesLine, ReaderSteps}
 

@@ -8,7 +8,8 @@ use Rattle.std.proofs.lemmas.Option.{unwrap_or-slice_get, slice_get_past, slice_
 use Rattle.std.proofs.lemmas.List.{get_or_append_left, length-append}
 use Rattle.std.proofs.lemmas.List.FromFn.{fill_by_all}
 use Rattle.dg_ihex.specs.Sizes.{longest_image}
-use Rattle.dg_ihex.specs.Blocks.{Block, block_byte, byte_at, is_given, overlaps, lowest_of, past_blocks, span_of, image_of_blocks}
+use Rattle.dg_ihex.specs.Blocks.{Block, block_byte, byte_at, overlaps, lowest_of, past_blocks, span_of, image_of_blocks}
+use Rattle.dg_ihex.specs.inner.Words.{is_given}
 use Rattle.dg_ihex.proofs.BlockLemmas.{block_byte-inside, byte_at-more, lowest_of-more, past_of-more}
 use Rattle.dg_ihex.proofs.WindowLemmas.{none_behind}
 

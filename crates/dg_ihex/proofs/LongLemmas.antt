@@ -18,7 +18,8 @@ use Rattle.dg_ihex.specs.declared.faults.HexCause.TheVariants as causes
 use Rattle.dg_ihex.specs.declared.record.Record.{Record}
 use Rattle.dg_ihex.specs.Sizes.{longest_record}
 use Rattle.dg_ihex.specs.Records.{record_of, record_of_bytes, record_of_digits}
-use Rattle.dg_ihex.specs.Files.{judged, records_of, to_list}
+use Rattle.dg_ihex.specs.Files.{judged, records_of}
+use Rattle.dg_ihex.specs.inner.Words.{to_list}
 use Rattle.dg_ihex.specs.Streams.{ReadsAlike, SaysAlike, Stays}
 
 -- ---- digits, and those after them

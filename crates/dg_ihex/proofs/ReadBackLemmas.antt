@@ -14,7 +14,9 @@ use Rattle.dg_base.proofs.LineLemmas.{lines-ended}
 use Rattle.dg_ihex.specs.declared.faults.HexCause.{HexCause}
 use Rattle.dg_ihex.specs.declared.record.Record.{Record}
 use Rattle.dg_ihex.specs.Records.{record_of, record_of_bytes, record_of_digits, typed_record}
-use Rattle.dg_ihex.specs.Written.{record_checksum, with_checksum, upper_hex, fields_of_record, line_of_record, ended_by_feed}
+use Rattle.dg_ihex.specs.Written.{record_checksum, with_checksum, fields_of_record, line_of_record}
+use Rattle.dg_ihex.specs.inner.Words.{upper_hex}
+use Rattle.dg_ihex.specs.inner.Words.{ended_by_feed}
 
 -- ---- digits
 

@@ -11,7 +11,9 @@ use Rattle.dg_ihex.specs.Sizes.{longest_image, segment, piece_bytes}
 use Rattle.dg_ihex.specs.Blocks.{Block, image_of_blocks}
 use Rattle.dg_ihex.specs.Records.{record_of, typed_record, data_record, linear_record, marker}
 use Rattle.dg_ihex.specs.Files.{base_of, blocks_of, has_end, cause_of, records_of, file_from, hex_file}
-use Rattle.dg_ihex.specs.Written.{base_line, base_lines, data_line, end_line, line_of_record, lines_at, piece_at, records_of_data, written_file, hex_lines}
+use Rattle.dg_ihex.specs.Written.{base_line, base_lines, line_of_record, lines_at, written_file, hex_lines}
+use Rattle.dg_ihex.specs.inner.Words.{end_line, piece_at, records_of_data}
+use Rattle.dg_ihex.specs.inner.Words.{data_line}
 use Rattle.dg_ihex.proofs.FileLemmas.{base_of-more, blocks_next, blocks_same, data_block, end_same, end_now, no_byte, record_line, span_fits, with_block}
 use Rattle.dg_ihex.proofs.StreamLemmas.{file_more}
 use Rattle.dg_ihex.proofs.ReadBackLemmas.{FitsLine, IsByte, IsLine, line_back, line_is, lines_back}

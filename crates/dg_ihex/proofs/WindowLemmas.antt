@@ -5,7 +5,8 @@ use Rattle.std.specs.Option.{option_or}
 use Rattle.std.proofs.lemmas.List.{take_all, take_more_set, get_or_past}
 use Rattle.std.proofs.lemmas.List.FromFn.{map-range_with_len_more}
 use Rattle.dg_ihex.specs.Sizes.{longest_image}
-use Rattle.dg_ihex.specs.Blocks.{Block, block_byte, byte_at, is_given, overlaps, lowest_of, past_blocks, span_of, image_of_blocks}
+use Rattle.dg_ihex.specs.Blocks.{Block, block_byte, byte_at, overlaps, lowest_of, past_blocks, span_of, image_of_blocks}
+use Rattle.dg_ihex.specs.inner.Words.{is_given}
 use Rattle.dg_ihex.specs.Cells.{Keeps, cells_written}
 use Rattle.dg_ihex.proofs.BlockLemmas.{byte_at-more, lowest_of-more, past_of-more, byte_at-within, block_byte-outside, block_byte-inside}
 use Rattle.dg_ihex.proofs.CellLemmas.{cells_differ, keeps_written}

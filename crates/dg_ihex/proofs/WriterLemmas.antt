@@ -9,7 +9,9 @@ use Rattle.std.proofs.lemmas.List.Concat.{flat_map-append}
 use Rattle.dg_words.proofs.ListLemmas.{flat_map-range_more}
 use Rattle.dg_base.specs.Hexadecimal.{hex_digit, hex_text}
 use Rattle.dg_ihex.specs.Sizes.{segment, piece_bytes}
-use Rattle.dg_ihex.specs.Written.{record_checksum, with_checksum, upper_hex, base_line, base_lines, data_line, end_line, lines_at, piece_at, records_of_data, ended_by_feed, written_file}
+use Rattle.dg_ihex.specs.Written.{record_checksum, with_checksum, base_line, base_lines, lines_at, written_file}
+use Rattle.dg_ihex.specs.inner.Words.{upper_hex, end_line, piece_at, records_of_data}
+use Rattle.dg_ihex.specs.inner.Words.{data_line, ended_by_feed}
 
 -- ---- upper case
 

@@ -21,12 +21,9 @@ unfoldable pub byte_at : List Block → ℕ → Option ℕ
 byte_at [] address = None
 byte_at (block ∷ blocks) address = option_or (block_byte block address) (byte_at blocks address)
 
-abbrev pub is_given : List Block → ℕ → Bool
-is_given blocks address = is_some (byte_at blocks address)
-
 -- whether a block has an address that is given before
 abbrev pub overlaps : List Block → Block → Bool
-overlaps before block = list_any (is_given before) (range_with_len block.address (length block.bytes))
+overlaps before block = list_any (λ at. is_some (byte_at before at)) (range_with_len block.address (length block.bytes))
 
 -- the lowest address, 2 ^ 32 if there is none
 unfoldable pub lowest_of : List Block → ℕ

@@ -1,13 +1,15 @@
 -- HEX files: their records, their first fault, and their image (Intel Hexadecimal Object File Format Specification, revision
 -- A).
 use Rattle.std.specs.Prelude.{ℕ, ◌+◌, ◌*◌, nat_lt, Bool, true, false, if◌then◌else◌, List, [], ◌∷◌, ◌++◌, length, fold, Option}
-use Rattle.std.specs.Prelude.{Some, None, Result, Ok, Err}
+use Rattle.std.specs.Prelude.{Some, None, option_to_list, Result, Ok, Err}
+use Rattle.std.specs.Result.{result_ok}
 use Rattle.std.specs.List.{list_any, flat_map}
 use Rattle.std.specs.Str.Lines.{lines}
 use Rattle.dg_ihex.specs.declared.faults.HexCause.{HexCause}
 use Rattle.dg_ihex.specs.declared.faults.HexCause.TheVariants.{Overlap, Span, End}
 use Rattle.dg_ihex.specs.declared.faults.HexFileFault.{HexFileFault}
-use Rattle.dg_ihex.specs.Sizes.{longest_image, paragraph, segment}
+use Rattle.dg_base.specs.Sizes.{most_content}
+use Rattle.dg_ihex.specs.Sizes.{paragraph, segment}
 use Rattle.dg_ihex.specs.declared.record.Record.{Record}
 use Rattle.dg_ihex.specs.declared.record.Record.TheVariants as records
 use Rattle.dg_ihex.specs.Records.{record_of}
@@ -17,11 +19,9 @@ use Rattle.dg_ihex.specs.Blocks.{Block, overlaps, span_of, image_of_blocks}
 
 -- the base after a record, by the base before it
 abbrev pub base_behind : ℕ → Record → ℕ
-base_behind base (records.Data offset bytes) = base
-base_behind base records.End = base
 base_behind base (records.Segment units) = units * paragraph
 base_behind base (records.Linear units) = units * segment
-base_behind base records.Start = base
+base_behind base found = base
 
 -- the base after records, which is 0 at first
 abbrev pub base_of : List Record → ℕ
@@ -29,12 +29,8 @@ base_of before = fold base_behind 0 before
 
 -- the block of a record over a base. Data of no bytes has no address.
 abbrev pub block_of : ℕ → Record → List Block
-block_of base (records.Data offset []) = []
 block_of base (records.Data offset (byte ∷ bytes)) = record { address = base + offset; bytes = byte ∷ bytes } ∷ []
-block_of base records.End = []
-block_of base (records.Segment units) = []
-block_of base (records.Linear units) = []
-block_of base records.Start = []
+block_of base found = []
 
 abbrev pub blocks_over : ℕ → List Record → List Block
 blocks_over base [] = []
@@ -45,11 +41,8 @@ unfoldable pub blocks_of : List Record → List Block
 blocks_of all = blocks_over 0 all
 
 abbrev pub is_end : Record → Bool
-is_end (records.Data offset bytes) = false
 is_end records.End = true
-is_end (records.Segment units) = false
-is_end (records.Linear units) = false
-is_end records.Start = false
+is_end found = false
 
 abbrev pub has_end : List Record → Bool
 has_end all = list_any is_end all
@@ -63,20 +56,16 @@ first_cause overlap span end = if overlap then Some Overlap else if span then So
 -- What is wrong with blocks after those that are given. An address was given before; or the highest address minus the
 -- lowest, plus 1, is more than the longest image has bytes; or the end came before.
 abbrev pub cause_of_blocks : List Block → List Block → Bool → Option HexCause
-cause_of_blocks given own end = first_cause (list_any (overlaps given) own) (nat_lt longest_image (span_of (given ++ own))) end
+cause_of_blocks given own end = first_cause (list_any (overlaps given) own) (nat_lt most_content (span_of (given ++ own))) end
 
 -- what is wrong with a record after others
 unfoldable pub cause_behind : List Record → Record → Option HexCause
 cause_behind before next = cause_of_blocks (blocks_of before) (block_of (base_of before) next) (has_end before)
 
-abbrev pub to_list : Result Record HexCause → List Record
-to_list (Ok found) = found ∷ []
-to_list (Err cause) = []
-
 -- the record of a line. A blank line has none.
 abbrev pub record_in : List ℕ → List Record
 record_in [] = []
-record_in (c ∷ text) = to_list (record_of (c ∷ text))
+record_in (c ∷ text) = option_to_list (result_ok (record_of (c ∷ text)))
 
 -- the records of lines
 abbrev pub records_of : List (List ℕ) → List Record

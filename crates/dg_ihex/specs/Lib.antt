@@ -10,3 +10,4 @@ pub mod Readers
 pub mod Streams
 pub mod Written
 pub mod Laws
+pub mod inner

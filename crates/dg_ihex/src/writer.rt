@@ -3,8 +3,10 @@ ghost use Rattle.std.specs.Prelude.{◌≡◌, ◌+◌, ◌*◌, ◌<◌, ◌≤
 ghost use Rattle.std.specs.Char.{to_ascii_uppercase};
 ghost use Rattle.std.specs.List.{flat_map};
 ghost use Rattle.dg_ihex.specs.Sizes.{longest_image, piece_bytes};
-ghost use Rattle.dg_ihex.specs.Written.{base_lines, record_checksum, ended_by_feed, fields_of_record, line_of_record, lines_at};
-ghost use Rattle.dg_ihex.specs.Written.{upper_hex, written_file};
+ghost use Rattle.dg_ihex.specs.Written.{base_lines, record_checksum, fields_of_record, line_of_record, lines_at};
+ghost use Rattle.dg_ihex.specs.inner.Words.{ended_by_feed};
+ghost use Rattle.dg_ihex.specs.Written.{written_file};
+ghost use Rattle.dg_ihex.specs.inner.Words.{upper_hex};
 
 use crate::record::{SEGMENT, sum_of};
 use dg_base::push_hex;

@@ -10,7 +10,8 @@ use Rattle.toml.specs.Parse.{parse_document}
 use Rattle.toml.specs.View.{view, items_view, members_view}
 use Rattle.toml.specs.declared.value.Value.{Value}
 use Rattle.dg_netcfg.specs.Document.{document_of, keys_of, list_of, two_array_items, all_of}
-use Rattle.dg_netcfg.specs.Profile.{is_key, profile_link, is_same_link, has_repeat, profile_fields, with_fields, netprofile}
+use Rattle.dg_netcfg.specs.Profile.{is_key, profile_link, is_same_link, has_repeat, profile_fields, netprofile}
+use Rattle.dg_netcfg.specs.inner.Steps.{with_fields}
 use Rattle.dg_netcfg.specs.Readings.{ReadsNetProfile}
 use Rattle.dg_netcfg.specs.declared.profile.NetProfile.{NetProfile}
 use Rattle.dg_netcfg.specs.declared.profile.ProfileFault.{ProfileFault}

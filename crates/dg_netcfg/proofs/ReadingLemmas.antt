@@ -12,7 +12,8 @@ use Rattle.std.proofs.lemmas.List.Kept.{AllPairs-cons}
 use Rattle.toml.specs.Data.{Data, string, integer, float, boolean, datetime, array, table, Items, no_items, item, Members, as_integer, as_array, get_member}
 use Rattle.toml.specs.Parse.{parse_document}
 use Rattle.dg_netcfg.specs.Document.{document_of, keys_of, list_of, integer_at, array_at, number_in_range, two_array_items, all_of}
-use Rattle.dg_netcfg.specs.Profile.{is_key, three, profile_fields, profile_mote, link_between, profile_link, is_same_link, has_repeat, once, links_of, with_port, with_links, with_motes, with_fields, with_document, netprofile}
+use Rattle.dg_netcfg.specs.Profile.{is_key, three, profile_fields, profile_mote, link_between, profile_link, is_same_link, has_repeat, links_of, netprofile}
+use Rattle.dg_netcfg.specs.inner.Steps.{once, with_port, with_links, with_motes, with_fields, with_document}
 use Rattle.dg_netcfg.specs.Readings.{ReadsNetProfile, IsDocument, IsKey, HasFields, IsNumberInRange, IsLink, IsSameLink, AreLinks, IsAllowed, IsProfileReading}
 use Rattle.dg_netcfg.specs.declared.profile.NetProfile.{NetProfile}
 use Rattle.dg_netcfg.specs.declared.profile.ProfileFault.{ProfileFault}

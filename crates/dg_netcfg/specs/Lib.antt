@@ -3,3 +3,4 @@ pub mod Document
 pub mod Profile
 pub mod Readings
 pub mod Sizes
+pub mod inner

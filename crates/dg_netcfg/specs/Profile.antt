@@ -15,9 +15,7 @@ is_key key = bytes_eq key (codes "motes") || bytes_eq key (codes "port") || byte
 
 abbrev pub three : Option ℤ → Option ℤ → Option Items → Option (ℤ × ℤ × Items)
 three (Some motes) (Some port) (Some entries) = Some (motes, port, entries)
-three (Some motes) (Some port) None = None
-three (Some motes) None links = None
-three None port links = None
+three motes port links = None
 
 -- the number of motes, the port and the entries of `links`, if the keys are exactly these, two with
 -- a whole number and one with an array
@@ -33,8 +31,7 @@ profile_mote motes value = option_and_then (number_in_range 0 (motes - 1)) (as_i
 
 abbrev pub link_between : Option ℕ → Option ℕ → Option (ℕ × ℕ)
 link_between (Some a) (Some b) = if a == b then None else Some (a, b)
-link_between (Some a) None = None
-link_between None b = None
+link_between a b = None
 
 -- the link that an entry describes: an array of exactly two motes, which differ
 abbrev pub profile_link : ℕ → Data → Option (ℕ × ℕ)
@@ -50,34 +47,20 @@ abbrev pub has_repeat : List (ℕ × ℕ) → Bool
 has_repeat [] = false
 has_repeat (l ∷ ls) = list_any (is_same_link l) ls || has_repeat ls
 
-abbrev pub once : Option (List (ℕ × ℕ)) → Option (List (ℕ × ℕ))
-once None = None
-once (Some links) = if has_repeat links then None else Some links
-
 -- the links that entries describe, no link twice
 abbrev pub links_of : ℕ → Items → Option (List (ℕ × ℕ))
-links_of motes entries = once (all_of (map (profile_link motes) (list_of entries)))
+links_of motes entries =
+    option_and_then (λ links. if has_repeat links then None else Some links) (all_of (map (profile_link motes) (list_of entries)))
 
-abbrev pub with_port : ℕ → List (ℕ × ℕ) → Option ℕ → Result NetProfile ProfileFault
-with_port motes links None = Err Port
-with_port motes links (Some port) = Ok (record { motes = motes; port = port; links = links })
-
-abbrev pub with_links : ℕ → ℤ → Option (List (ℕ × ℕ)) → Result NetProfile ProfileFault
-with_links motes port None = Err Link
-with_links motes port (Some links) = with_port motes links (number_in_range least_port greatest_port port)
-
-abbrev pub with_motes : ℤ → Items → Option ℕ → Result NetProfile ProfileFault
-with_motes port entries None = Err Id
-with_motes port entries (Some motes) = with_links motes port (links_of motes entries)
-
-abbrev pub with_fields : Option (ℤ × ℤ × Items) → Result NetProfile ProfileFault
-with_fields None = Err Key
-with_fields (Some f) = with_motes f.1 f.2 (number_in_range 1 most_motes f.0)
-
-abbrev pub with_document : Option Members → Result NetProfile ProfileFault
-with_document None = Err NotToml
-with_document (Some document) = with_fields (profile_fields document)
+-- what comes of a value, or the fault where it is missing
+abbrev pub needed : {A : Type 0} → ProfileFault → Option A → (A → Result NetProfile ProfileFault) → Result NetProfile ProfileFault
+needed fault None next = Err fault
+needed fault (Some x) next = next x
 
 -- the profile that bytes encode, or the first cause why they encode no profile
 unfoldable pub netprofile : List ℕ → Result NetProfile ProfileFault
-netprofile bytes = with_document (document_of bytes)
+netprofile bytes =
+    needed NotToml (document_of bytes) (λ document. needed Key (profile_fields document)
+    (λ f. needed Id (number_in_range 1 most_motes f.0) (λ motes. needed Link (links_of motes f.2)
+    (λ links. needed Port (number_in_range least_port greatest_port f.1)
+    (λ port. Ok (record { motes = motes; port = port; links = links }))))))

@@ -4,7 +4,8 @@ ghost use Rattle.std.specs.List.{list_all};
 ghost use Rattle.toml.specs.Data.{get_member};
 ghost use Rattle.toml.specs.View.{view, array_view, table_view};
 ghost use Rattle.dg_netcfg.specs.Document.{keys_of, integer_at, array_at, number_in_range};
-ghost use Rattle.dg_netcfg.specs.Profile.{is_key, profile_fields, with_fields, netprofile};
+ghost use Rattle.dg_netcfg.specs.Profile.{is_key, profile_fields, netprofile};
+ghost use Rattle.dg_netcfg.specs.inner.Steps.{with_fields};
 ghost use Rattle.dg_netcfg.specs.Readings.{ReadsNetProfile, IsProfileReading, IsAllowed};
 
 use crate::links::read_links;

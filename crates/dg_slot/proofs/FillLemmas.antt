@@ -1,9 +1,10 @@
 -- A page that is put packet by packet, from the first one on.
-use Rattle.std.proofs.Common.{◌≡◌, ℕ, zero, suc, ◌+◌, ◌-◌, ◌*◌, ◌<◌, ◌≤◌, Option, Some, List, length, get_or, refl, sym, ap, ◌∙◌, subst, ⊎_elim, arith}
+use Rattle.std.proofs.Common.{◌≡◌, ℕ, zero, suc, ◌+◌, ◌-◌, ◌*◌, ◌<◌, ◌≤◌, Option, Some, List, length, drop, get_or, refl, sym, ap, ◌∙◌, subst, ⊎_elim, arith}
 use Rattle.std.specs.Prelude.{⊤}
 use Rattle.std.proofs.lemmas.Bool.{cases_eq}
 use Rattle.std.proofs.lemmas.List.{get_or-set_same, get_or-set_other, same_lists}
-use Rattle.dg_words.specs.Cells.{part}
+use Rattle.dg_words.specs.Cells.{part, AreBytes}
+use Rattle.dg_words.proofs.ByteLemmas.{AreBytes-take, AreBytes-drop}
 use Rattle.dg_words.proofs.ListLemmas.{length-tabulate, get_or-tabulate}
 use Rattle.dg_nor.specs.Device.{Device, Ran, Halts, Halted}
 use Rattle.dg_nor.proofs.DeviceLemmas.{Halted_first, Halted_second, Halted_once}
@@ -13,6 +14,10 @@ use Rattle.dg_slot.proofs.JobLemmas.{count_none, count_put}
 
 abbrev pub packet_of : List ℕ → ℕ → List ℕ
 packet_of page q = part page (packet_size * q) packet_size
+
+pub AreBytes-packet : (page : List ℕ) (q : ℕ) → AreBytes page → AreBytes (packet_of page q)
+unfolding part
+AreBytes-packet page q h = AreBytes-take packet_size (drop (packet_size * q) page) (AreBytes-drop (packet_size * q) page h)
 
 -- the first n packets of a page are put
 unfoldable pub first_packets : List ℕ → ℕ → Packets

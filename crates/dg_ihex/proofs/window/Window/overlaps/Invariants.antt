@@ -1,7 +1,8 @@
 -- the rest of the addresses has one that is given, if all of them have
 use Rattle.std.proofs.Common.{◌≡◌, ◌+◌, ◌-◌, List, length}
 use Rattle.std.specs.List.{list_any, range_with_len}
-use Rattle.dg_ihex.specs.Blocks.{Block, is_given}
+use Rattle.dg_ihex.specs.Blocks.{Block}
+use Rattle.dg_ihex.specs.inner.Words.{is_given}
 use Rattle.dg_ihex.specs.Windows.{Holds}
 use Rattle.dg_ihex.proofs.window.Window.overlaps.Given as goal
 

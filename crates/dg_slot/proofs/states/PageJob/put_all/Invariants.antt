@@ -16,6 +16,7 @@ invariant-loop-packet g l =
       got : (q : ℕ) → q < l.packet → set.contains (got_of_job l.self) q ≡ true;
       missing : (q : ℕ) → l.packet ≤ q → set.contains (got_of_job l.self) q ≡ false;
       same_slot : slot_of l.self ≡ slot_of l.fn.self;
+      index : l.index ≡ sector_of l.fn.self;
       ran : Ran l.packet old now;
       kept : (h : Held) → IsOpen old.image (slot_of l.fn.self) h → IsOpen now.image (slot_of l.fn.self) h;
       references : now.references ≡ old.references;
