@@ -201,7 +201,7 @@ uint32_t deluge_plan_seal(const uint8_t *chip, size_t chip_count, uint8_t image,
     struct deluge_command *commands, size_t room, uint8_t *bytes, size_t bytes_room, size_t *planned);
 
 /* Plans that an image is kept whole: at most 3,258 commands and 71,964 bytes. With less room the list is a prefix, from which a
- * next call continues if a page had room: 58 commands and 1,244 bytes. */
+ * next call continues if a page has room: 50 commands and 1,105 bytes. */
 uint32_t deluge_plan_inject(const uint8_t *chip, size_t chip_count, uint8_t image, uint32_t version, const uint8_t *name,
     size_t name_count, const uint8_t *content, size_t content_count, struct deluge_command *commands, size_t room, uint8_t *bytes,
     size_t bytes_room, size_t *planned);

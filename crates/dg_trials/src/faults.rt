@@ -10,7 +10,8 @@ use crate::fault_lines::{
     RADIO_LINES, ROUND, ROUND_LINES, SECOND, SECOND_LINES, SWEEP,
 };
 use dg_base::{MOST_MOTES, next_line};
-use dg_script::{Line, LineFault, MOST_WRITTEN, Place, read_line, write_line};
+use dg_lines::write_line;
+use dg_script::{Line, LineFault, MOST_WRITTEN, Place, read_line};
 use std::alloc::Global;
 use std::test::Fail;
 

@@ -20,7 +20,7 @@ const PLACES: u8 = 32;
 const PLACE_SIZE: u32 = 64;
 
 /// What an order may read of a known board on which one slot is Live and no place is torn: twice the 484 bytes of a mount by
-/// halving, and a place.
+/// binary search, and a place.
 const ORDER_READS: u64 = 1_032;
 
 /// What happens to the mote.
