@@ -1,17 +1,35 @@
 //! Who hears whom.
-ghost use Rattle.std.specs.Prelude.{◌≡◌};
+ghost use Rattle.std.specs.Prelude.{◌≡◌, ◌<◌, ◌||◌, ℕ, false, slice_index_or};
 ghost use Rattle.dg_script.specs.Places.{is_linked, joins};
+ghost use Rattle.dg_script.specs.Sizes.{most_motes};
+ghost use Rattle.dg_rehearse.specs.Along.{AreNeighbours};
 
-/// Whether a link joins two motes.
-pub(crate) fn are_neighbours(links: &[(u8, u8)], a: u8, b: u8) -> bool
-    ensures { result ≡ is_linked links.now a b }
+use crate::progress::set;
+use dg_base::MOST_MOTES;
+
+/// Which motes are neighbours of one, by their numbers.
+pub(crate) type Marks = [bool; MOST_MOTES as usize];
+
+/// The motes that a link joins with this one.
+pub(crate) fn neighbours_of(links: &[(u8, u8)], mote: u8) -> Marks
+    ensures { AreNeighbours result links.now mote }
 {
-    links.iter().any(|link| is_joined(*link, a, b))
+    let mut marks = [false; MOST_MOTES as usize];
+    for link in links {
+        mark_end(&mut marks, *link, mote);
+    }
+    marks
 }
 
-/// Whether this link joins two motes.
-fn is_joined(link: (u8, u8), a: u8, b: u8) -> bool
-    ensures { result ≡ joins a b link }
+/// Marks the other end of a link, if this mote is one of its ends.
+fn mark_end(marks: &mut Marks, link: (u8, u8), mote: u8)
+    ensures { (other : ℕ) → other < most_motes
+        → slice_index_or marks.new other false ≡ (slice_index_or marks.old other false || joins mote other link) }
 {
-    (link.0 == a && link.1 == b) || (link.0 == b && link.1 == a)
+    if link.0 == mote {
+        set(marks, link.1, true);
+    }
+    if link.1 == mote {
+        set(marks, link.0, true);
+    }
 }

@@ -94,7 +94,7 @@ fn all_set(of: &[bool; MOST_MOTES as usize], motes: u8) -> bool
 }
 
 /// Whether the flag of a mote is set.
-fn is_set(of: &[bool; MOST_MOTES as usize], mote: u8) -> bool
+pub(crate) fn is_set(of: &[bool; MOST_MOTES as usize], mote: u8) -> bool
     ensures { result ≡ slice_index_or of.now mote false }
 {
     match of.get(usize::from(mote)) {
@@ -105,7 +105,7 @@ fn is_set(of: &[bool; MOST_MOTES as usize], mote: u8) -> bool
 
 /// Sets the flag of a mote.
 #[tactic(auto, using(std::proofs::lemmas::List::set_past))]
-fn set(of: &mut [bool; MOST_MOTES as usize], mote: u8, is: bool)
+pub(crate) fn set(of: &mut [bool; MOST_MOTES as usize], mote: u8, is: bool)
     ensures { of.new ≡ slice_set of.old mote is }
 {
     let mote = usize::from(mote);

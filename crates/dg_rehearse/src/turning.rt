@@ -4,16 +4,19 @@ ghost use Rattle.dg_nor.specs.Device.{Device};
 ghost use Rattle.dg_netcfg.specs.declared.profile.NetProfile.{NetProfile as Profile};
 ghost use Rattle.dg_rules.specs.Events.{mote_of};
 ghost use Rattle.dg_script.specs.Places.{is_linked};
+ghost use Rattle.dg_script.specs.Sizes.{most_motes};
 ghost use Rattle.dg_rules.specs.World.{World as RuleWorld};
 ghost use Rattle.dg_world.specs.Due.{due_at};
+ghost use Rattle.dg_rehearse.specs.Along.{AreNeighbours};
 ghost use Rattle.dg_rehearse.specs.Courses.{Moves, scene, IsStagedWorld};
 ghost use Rattle.dg_rehearse.specs.Rehearsed.{IsRehearsed, IsUnderWay, IsContinued, MoreEvents, IsFull, Staging, staging};
 ghost use Rattle.dg_rehearse.specs.Rehearsed.{SentBy, LastSentBy, GoesAlong};
 ghost use Rattle.dg_rehearse.specs.Turns.{turn_course, delivered_course, heard_course, turn_event, since_moment};
 ghost use Rattle.dg_rehearse.specs.declared.plan.Ending.{Ending as End};
 
-use crate::neighbours::are_neighbours;
+use crate::neighbours::{Marks, neighbours_of};
 use crate::plan::{Ending, Plan};
+use crate::progress::is_set;
 use crate::schedule::{Next, Schedule};
 use crate::stage::{Played, Stage, later};
 use crate::stop::Halt;
@@ -83,8 +86,13 @@ impl Schedule {
         let Some(frame) = numbered(sent) else {
             return Ok(Played::Done);
         };
+        let sent = OnAir {
+            from,
+            frame,
+            near: neighbours_of(profile.links.as_slice(), from),
+        };
         for mote in 0..profile.motes {
-            match self.hear(from, mote, frame, profile, plan, stage, boards)? {
+            match self.hear(&sent, mote, profile, plan, stage, boards)? {
                 Played::Done => {}
                 Played::TooMany => return Ok(Played::TooMany),
             }
@@ -96,9 +104,8 @@ impl Schedule {
     #[tactic(auto, using(crate::proofs::PlayLemmas::goes_nowhere))]
     fn hear<N: Nor>(
         &mut self,
-        from: u8,
+        sent: &OnAir,
         mote: u8,
-        frame: u32,
         profile: &NetProfile,
         plan: &Plan,
         stage: &mut Stage,
@@ -106,16 +113,18 @@ impl Schedule {
     ) -> Result<Played, Halt>
         requires under_way { IsUnderWay profile.now plan.now (staging stage.old (map N.device boards.old.items)) }
         requires known { mote < profile.now.motes }
-        requires numbered { 1 ≤ frame }
-        requires sent { SentBy from frame (staging stage.old (map N.device boards.old.items)) }
+        requires numbered { 1 ≤ sent.now.frame }
+        requires near { AreNeighbours sent.now.near profile.now.links sent.now.from }
+        requires sent { SentBy sent.now.from sent.now.frame (staging stage.old (map N.device boards.old.items)) }
         ensures goes_on { OnOk result (IsContinued profile.now plan.now (staging stage.old (map N.device boards.old.items))
             (staging stage.new (map N.device boards.new.items))) }
-        ensures moves { result ≡ Ok Played.Done → Moves (heard_course profile.now plan.now from frame mote) profile.now plan.now
+        ensures moves { result ≡ Ok Played.Done → Moves (heard_course profile.now plan.now sent.now.from sent.now.frame mote)
+            profile.now plan.now
             (scene self.old stage.old (map N.device boards.old.items))
             (scene self.new stage.new (map N.device boards.new.items)) }
         ensures full { result ≡ Ok Played.TooMany → IsFull (staging stage.new (map N.device boards.new.items)) }
     {
-        if !can_hear(profile, from, mote, stage) {
+        if !can_hear(sent, mote, profile, stage) {
             return Ok(Played::Done);
         }
         let drawn = self.draw();
@@ -127,19 +136,30 @@ impl Schedule {
             mote,
             dt: 0,
             word,
-            frame,
+            frame: sent.frame,
         };
         self.event(event, profile, plan, stage, boards)
     }
 }
 
-/// Whether a mote hears another one, if nothing is lost: a link joins them, and it is on.
-fn can_hear(profile: &NetProfile, from: u8, mote: u8, stage: &Stage) -> bool
-    ensures linked { result ≡ true → is_linked profile.now.links from mote ≡ true }
+/// A frame on the air: who sent it, its number, and the neighbours of who sent it.
+#[derive(Drop)]
+struct OnAir {
+    from: u8,
+    frame: u32,
+    near: Marks,
+}
+
+/// Whether a mote hears a frame, if nothing is lost: a link joins it with the one that sent the frame, and it is on.
+fn can_hear(sent: &OnAir, mote: u8, profile: &NetProfile, stage: &Stage) -> bool
+    requires known { mote < profile.now.motes }
+    requires few { profile.now.motes ≤ most_motes }
+    requires near { AreNeighbours sent.now.near profile.now.links sent.now.from }
+    ensures linked { result ≡ true → is_linked profile.now.links sent.now.from mote ≡ true }
     ensures value { (boards : List Device) (w : RuleWorld) → IsStagedWorld profile.now (staging stage.now boards) w
-        → mote < profile.now.motes → result ≡ (is_linked profile.now.links from mote && is_some (due_at w mote)) }
+        → result ≡ (is_linked profile.now.links sent.now.from mote && is_some (due_at w mote)) }
 {
-    if !are_neighbours(profile.links.as_slice(), from, mote) {
+    if !is_set(&sent.near, mote) {
         return false;
     }
     stage.world.due(mote).is_some()
