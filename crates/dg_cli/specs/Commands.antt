@@ -27,7 +27,6 @@ use Rattle.dg_command.specs.Asking.{Said, Replay, Serve, Format, Inject, Order a
 use Rattle.dg_command.specs.Asking.{Wrap, Check, Receive, Drip, Base, Asking, Asks, Helps, TellsVersion, Misuses}
 use Rattle.dg_end.specs.Texts.{line}
 use Rattle.dg_cli.specs.Words.{TextDone}
-use Rattle.dg_cli.specs.Parts.{around_of}
 use Rattle.dg_cli.specs.Basing.{BasedOver}
 use Rattle.dg_cli.specs.Chained.{root_in, Checked}
 
@@ -67,7 +66,7 @@ pub record DripDone (status : Status) (a b : Outside) : Type 0 where
 -- ---- all commands
 
 abbrev pub CommandOutcome : Said → Status → Outside → Outside → Type 0
-CommandOutcome (Replay flashes) status a b = ReplayDone status (around_of a) (around_of b)
+CommandOutcome (Replay flashes) status a b = ReplayDone status a b
 CommandOutcome (Serve turns seed flashes) status a b = ServeDone turns seed status a b
 CommandOutcome (Format name used form flash) status a b = InputDone status (format_rule name used form) a b
 CommandOutcome (Inject image version name flash) status a b = InjectDone image version name status a b

@@ -17,7 +17,7 @@ use Rattle.dg_replay.specs.Items.{is_event}
 use Rattle.dg_replay.specs.Shown.{stores_in, events_played}
 use Rattle.dg_script.specs.Items.{Item, Declares, Applies}
 use Rattle.dg_nor.specs.Device.{Device}
-use Rattle.dg_replay.specs.Around.{Around, around}
+use Rattle.dg_outside.specs.Outside.{Outside}
 use Rattle.dg_replay.specs.Done.{ReplayDone}
 use Rattle.dg_replay.specs.Replayed.{Progress, Replayed}
 use Rattle.dg_base.specs.declared.answers.Status.{Status}
@@ -42,7 +42,7 @@ use Rattle.dg_count.specs.declared.counter.Counter.{Counter}
 use Rattle.dg_count.specs.declared.place.EventPlace.{EventPlace}
 use Rattle.dg_cost.specs.EventRows.{HasRows, HasCounts, HasEvents, rows_of_events, rows_of_starts, rows_of_images, counts_of, and_ended, event_rows, start_rows, image_rows}
 use Rattle.dg_cost.specs.Counting.{IsCountOf}
-use Rattle.dg_cost.specs.Costs.{CountsRun, CountsReplay, IsText, CostWrote, Rehearsed}
+use Rattle.dg_cost.specs.Costs.{CountsRun, CountsReplay, IsText, CostWrote, Rehearsed, with_report}
 use Rattle.dg_cost.specs.declared.call.Form.{Form}
 use Rattle.dg_cost.specs.declared.call.Form.TheVariants.{Table, Csv, Json, Timed}
 
@@ -202,11 +202,11 @@ text_shows Timed P Q report text f is = is
 -- ---- a replay that was counted
 
 -- the counter has counted this replay
-abbrev pub SeenReplay : Counter → Status → (a b : Around) → Type 0
+abbrev pub SeenReplay : Counter → Status → (a b : Outside) → Type 0
 SeenReplay c ran a b = (table : List Row) → (x : Replayed table ran a b) × CountedReplay c x.came
 
 -- what a counter costs besides does not matter
-cost_shows : (asked : Form) (c : Counter) (costs : Costs) (ran : Status) (a b : Around) (report text : List ℕ)
+cost_shows : (asked : Form) (c : Counter) (costs : Costs) (ran : Status) (a b : Outside) (report text : List ℕ)
     → c.frames.lost ≡ false → SeenReplay c ran a b → IsText asked (IsCountOf (record c { costs = costs }) ran) report text
     → IsText asked (CountsReplay ran a b) report text
 cost_shows asked c costs ran a b report text kept seen is =
@@ -226,10 +226,10 @@ cost_shows asked c costs ran a b report text kept seen is =
         ((seen table).0, run_rows (record c { costs = costs }) ran (seen table).0.came counted kept (same table) has)
 
 -- A report was kept from none on, and the text was made of it and of the counts.
-pub rehearsed : (asked : Form) (c : Counter) (costs : Costs) (ran status : Status) (a b : Around) (kept report shown text : List ℕ)
+pub rehearsed : (asked : Form) (c : Counter) (costs : Costs) (ran status : Status) (a b : Outside) (kept report shown text : List ℕ)
     (faults : ℕ) (before after : List Device) → c.frames.lost ≡ false → kept ≡ [] → shown ≡ report
-    → ReplayDone ran (around a.left a.reads (Some kept) 0 before) (around b.left b.reads (Some report) faults after)
-    → SeenReplay c ran (around a.left a.reads (Some kept) 0 before) (around b.left b.reads (Some report) faults after)
+    → ReplayDone ran (with_report kept 0 before a) (with_report report faults after b)
+    → SeenReplay c ran (with_report kept 0 before a) (with_report report faults after b)
     → IsText asked (IsCountOf (record c { costs = costs }) ran) shown text → CostWrote ran status text a b
     → Rehearsed asked status a b
 rehearsed asked c costs ran status a b kept report shown text faults before after valid none same done seen is wrote = record {
@@ -238,13 +238,13 @@ rehearsed asked c costs ran status a b kept report shown text faults before afte
   faults = faults;
   before = before;
   after = after;
-  replayed = subst (λ (xs : List ℕ). ReplayDone ran (around a.left a.reads (Some xs) 0 before) end) none done;
+  replayed = subst (λ (xs : List ℕ). ReplayDone ran (with_report xs 0 before a) end) none done;
   text = text;
-  is_text = cost_shows asked c costs ran (around a.left a.reads (Some []) 0 before) end report text valid
-      (subst (λ (xs : List ℕ). SeenReplay c ran (around a.left a.reads (Some xs) 0 before) end) none seen)
+  is_text = cost_shows asked c costs ran (with_report [] 0 before a) end report text valid
+      (subst (λ (xs : List ℕ). SeenReplay c ran (with_report xs 0 before a) end) none seen)
       (subst (λ (xs : List ℕ). IsText asked (IsCountOf (record c { costs = costs }) ran) xs text) same is);
   wrote = wrote;
 }
   where
-    end : Around
-    end = around b.left b.reads (Some report) faults after
+    end : Outside
+    end = with_report report faults after b

@@ -7,7 +7,7 @@ use Rattle.dg_base.specs.declared.answers.Status.TheVariants.{Memory, WriteFault
 use Rattle.dg_nor.specs.Device.{Device}
 use Rattle.dg_object.specs.Object.{Row}
 use Rattle.dg_script.specs.Script.{Script}
-use Rattle.dg_replay.specs.Around.{Around, around}
+use Rattle.dg_outside.specs.Outside.{Outside}
 use Rattle.dg_replay.specs.Done.{ReplayDone}
 use Rattle.dg_replay.specs.Items.{beginning_of}
 use Rattle.dg_replay.specs.Shown.{stores_in, events_played}
@@ -40,7 +40,7 @@ pub record CountsRun {table : List Row} {script : Script} (ran : Status) (came :
       → HasFrameRows m (events_played came.played) (table_of_rows rows)
 
 -- whichever table the boards are checked against, these are the counts of that replay
-abbrev pub CountsReplay : (ran : Status) → (a b : Around) → Counted → Type 0
+abbrev pub CountsReplay : (ran : Status) → (a b : Outside) → Counted → Type 0
 CountsReplay ran a b counted = (table : List Row) → (x : Replayed table ran a b) × CountsRun ran x.came counted
 
 -- the text that is written in this form, after a replay that wrote this report, with counts of that replay
@@ -51,23 +51,29 @@ IsText (Json model) counts report text = Unit {0}
 IsText Timed counts report text = IsStampedReport report text
 
 -- The text was written, and the status is that of the replay; or a prefix of it, since a write failed.
-abbrev pub CostWrote : (ran status : Status) → (text : List ℕ) → (a b : Around) → Type 0
-CostWrote ran status text a b = ((status ≡ ran) × Puts a.written b.written text)
-    ⊎ ((status ≡ WriteFault) × PutsPrefix a.written b.written text × Rose a.writes b.writes)
+abbrev pub CostWrote : (ran status : Status) → (text : List ℕ) → (a b : Outside) → Type 0
+CostWrote ran status text a b = ((status ≡ ran) × Puts a.output.written b.output.written text)
+    ⊎ ((status ≡ WriteFault) × PutsPrefix a.output.written b.output.written text
+    × Rose a.output.writes b.output.writes)
+
+-- what stands around a replay over these boards whose report is kept: the bytes of the report, and how many writes of it failed
+abbrev pub with_report : (report : List ℕ) → (faults : ℕ) → (boards : List Device) → Outside → Outside
+with_report report faults devices a =
+    record a { output = record { written = Some report; writes = faults }; boards = devices }
 
 -- A script was replayed as `replay` does it, into a report that was kept, and its cost was written.
-pub record Rehearsed (asked : Form) (status : Status) (a b : Around) : Type 0 where
+pub record Rehearsed (asked : Form) (status : Status) (a b : Outside) : Type 0 where
   pub ran : Status
   pub report : List ℕ
   pub faults : ℕ
   pub before : List Device
   pub after : List Device
-  pub replayed : ReplayDone ran (around a.left a.reads (Some []) 0 before) (around b.left b.reads (Some report) faults after)
+  pub replayed : ReplayDone ran (with_report [] 0 before a) (with_report report faults after b)
   pub text : List ℕ
   pub is_text : IsText asked
-      (CountsReplay ran (around a.left a.reads (Some []) 0 before) (around b.left b.reads (Some report) faults after)) report text
+      (CountsReplay ran (with_report [] 0 before a) (with_report report faults after b)) report text
   pub wrote : CostWrote ran status text a b
 
 -- the cost is written, unless memory runs out
-abbrev pub CostDone : Form → Status → (a b : Around) → Type 0
+abbrev pub CostDone : Form → Status → (a b : Outside) → Type 0
 CostDone asked status a b = (status ≡ Memory) ⊎ Rehearsed asked status a b

@@ -1,7 +1,7 @@
 //! The call that replays a script and writes what it costs.
 ghost use Rattle.std.specs.Prelude.{◌≡◌, ◌≤◌, map, IfOk};
 ghost use Rattle.dg_meter.specs.Meters.{metered_device};
-ghost use Rattle.dg_replay.specs.Around.{around};
+ghost use Rattle.dg_outside.specs.Outside.{Outside, with_input, with_output, with_boards};
 ghost use Rattle.dg_cost.specs.Costs.{CostDone, IsText};
 ghost use Rattle.dg_cost.specs.Counting.{IsCountOf};
 ghost use Rattle.dg_cost_text.specs.Csv.{csv};
@@ -151,11 +151,11 @@ pub fn cost<S: Source, K: Sink, N: Nor>(
     out: &mut K,
     boards: &mut Vec<Metered<N>>,
 ) -> Status
-    ensures done { CostDone asked.now result
-        (around (S.left input.old) (S.faults input.old) (K.written out.old) (K.faults out.old)
-        (map (metered_device N.device) boards.old.items))
-        (around (S.left input.new) (S.faults input.new) (K.written out.new) (K.faults out.new)
-        (map (metered_device N.device) boards.new.items)) }
+    ensures done { (rest : Outside) → CostDone asked.now result
+        (with_boards (map (metered_device N.device) boards.old.items)
+        (with_output (K.Sink, out.old) (with_input (S.Source, input.old) rest)))
+        (with_boards (map (metered_device N.device) boards.new.items)
+        (with_output (K.Sink, out.new) (with_input (S.Source, input.new) rest))) }
     ensures reads { S.faults input.old ≤ S.faults input.new }
     ensures writes { K.faults out.old ≤ K.faults out.new }
 {

@@ -2,7 +2,7 @@
 ghost use Rattle.std.specs.Prelude.{◌≤◌, [], List, map};
 ghost use Rattle.dg_object.specs.Object.{Row};
 ghost use Rattle.dg_meter.specs.Meters.{metered_device};
-ghost use Rattle.dg_replay.specs.Around.{around};
+ghost use Rattle.dg_outside.specs.Outside.{Outside, with_input, with_output, with_boards};
 ghost use Rattle.dg_replay.specs.Done.{ReplayDone};
 ghost use Rattle.dg_replay.specs.Replayed.{Replayed};
 ghost use Rattle.dg_count.specs.Runs.{HasSeen, CountedReplay};
@@ -23,20 +23,20 @@ pub fn replay_counted<S: Source, K: Sink, N: Nor>(
     boards: &mut Vec<Metered<N>>,
     counter: &mut Counter,
 ) -> Status
-    ensures done { ReplayDone result
-        (around (S.left input.old) (S.faults input.old) (K.written out.old) (K.faults out.old)
-        (map (metered_device N.device) boards.old.items))
-        (around (S.left input.new) (S.faults input.new) (K.written out.new) (K.faults out.new)
-        (map (metered_device N.device) boards.new.items)) }
+    ensures done { (rest : Outside) → ReplayDone result
+        (with_boards (map (metered_device N.device) boards.old.items)
+        (with_output (K.Sink, out.old) (with_input (S.Source, input.old) rest)))
+        (with_boards (map (metered_device N.device) boards.new.items)
+        (with_output (K.Sink, out.new) (with_input (S.Source, input.new) rest))) }
     ensures reads { S.faults input.old ≤ S.faults input.new }
     ensures writes { K.faults out.old ≤ K.faults out.new }
     // each event that was played is counted once, whatever the status
-    ensures counted { HasSeen counter.old [] [] → (table : List Row)
+    ensures counted { HasSeen counter.old [] [] → (rest : Outside) (table : List Row)
         → (x : Replayed table result
-        (around (S.left input.old) (S.faults input.old) (K.written out.old) (K.faults out.old)
-        (map (metered_device N.device) boards.old.items))
-        (around (S.left input.new) (S.faults input.new) (K.written out.new) (K.faults out.new)
-        (map (metered_device N.device) boards.new.items))) × CountedReplay counter.new x.came }
+        (with_boards (map (metered_device N.device) boards.old.items)
+        (with_output (K.Sink, out.old) (with_input (S.Source, input.old) rest)))
+        (with_boards (map (metered_device N.device) boards.new.items)
+        (with_output (K.Sink, out.new) (with_input (S.Source, input.new) rest)))) × CountedReplay counter.new x.came }
 {
     replay(alloc, input, out, boards, counter)
 }

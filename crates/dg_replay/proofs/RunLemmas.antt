@@ -2,7 +2,7 @@
 use Rattle.std.proofs.Common.{◌≡◌, ◌≢◌, ◌⊎◌, inl, inr, ℕ, ◌+◌, ◌<◌, ◌≤◌, Bool, true, false, ◌||◌, List, [], ◌∷◌, ◌++◌, length, append_assoc, refl, ap, sym, ◌∙◌, subst, arith}
 use Rattle.std.specs.Prelude.{⊤, Option, Some, None, Err}
 use Rattle.dg_base.specs.Outside.{Takes, AtEnd}
-use Rattle.dg_base.proofs.OutsideLemmas.{Puts-nil, Takes-told, Takes-all}
+use Rattle.dg_base.proofs.OutsideLemmas.{Puts-nil, Takes-nil, Takes-told, Takes-all}
 use Rattle.dg_base.specs.declared.answers.Status.{Status}
 use Rattle.dg_base.specs.declared.answers.Status.TheVariants.{Done, Memory, Usage, BadInput, ReadFault, WriteFault, FlashFault, NotAVolume, Refused, LinkFault, TooLong, TooMany, NoBoard, NoImage}
 use Rattle.dg_words.specs.Counts.{Rose}
@@ -17,7 +17,7 @@ use Rattle.dg_world.specs.Boards.{BoardStopped}
 use Rattle.dg_replay.specs.Boards.{BoardsStand}
 use Rattle.dg_replay.specs.Items.{StartState, UsesBoards, is_boards, begin_behind, beginning_of, motes_in, lacking, next_items}
 use Rattle.dg_replay.specs.Ending.{Ending, Ends, Over, ending_from, ending_of, ending_line, ending_status, script_of, has_unused_bytes, InBounds, InLimits}
-use Rattle.dg_replay.specs.Around.{Around, around}
+use Rattle.dg_outside.specs.Outside.{Outside}
 use Rattle.dg_replay.specs.Promised.{Headline}
 use Rattle.dg_replay.specs.Done.{IsUnfailed, ReplaysAll, ReplayDone}
 use Rattle.dg_replay.specs.Replayed.{Progress, IsSeen, RunsTo, played_text, Wrote, BoardsLeft, NoVolumeThere, NoImageThere, AreVolumes, IsSettled, AreWhole, AllWhole, NextIsWhole, RestsOnTaken, IsCaused, Replayed}
@@ -119,9 +119,9 @@ halt_stopped {table} {S = S} {G = G} halt stop s input at_end reads old new befo
     (omega (arith, h.0), stopped_ends stop s (script_of input) (has_unused_bytes input) input at_end h.2.0 old new before mid after failed later reads worse spread widen h.2.1 h.1 h.2.2 done)
 
 -- what a replay did, where these bytes were taken
-abbrev pub replayed_of : {table : List Row} {S G : Saw} (s : Status) (bytes : List ℕ) (a b : Around) → Takes a.left b.left bytes → length bytes ≤ most_used_bytes + 1
-    → ScriptReplayed table s (script_of bytes) (ending_of (length a.boards) bytes) (bytes_taken bytes (AtEnd b.left)) (span a.boards b.boards a.written b.written S G) (failures (Rose a.reads b.reads) (Rose a.writes b.writes))
-    → (s ≢ ReadFault → b.reads ≡ a.reads) → (s ≢ WriteFault → b.writes ≡ a.writes) → Replayed table s a b
+abbrev pub replayed_of : {table : List Row} {S G : Saw} (s : Status) (bytes : List ℕ) (a b : Outside) → Takes a.input.left b.input.left bytes → length bytes ≤ most_used_bytes + 1
+    → ScriptReplayed table s (script_of bytes) (ending_of (length a.boards) bytes) (bytes_taken bytes (AtEnd b.input.left)) (span a.boards b.boards a.output.written b.output.written S G) (failures (Rose a.input.reads b.input.reads) (Rose a.output.writes b.output.writes))
+    → (s ≢ ReadFault → b.input.reads ≡ a.input.reads) → (s ≢ WriteFault → b.output.writes ≡ a.output.writes) → Replayed table s a b
 replayed_of s bytes a b taken few r reads writes =
     record { input = bytes; taken = taken; few_bytes = few; came = r.came; text = r.text; written = r.written; report = r.report; read = r.read; near = r.near; limits = r.limits; stood = r.stood; boards = r.boards; untouched = r.left.0; caused = r.caused; read_faults = reads; write_faults = writes }
 
@@ -161,10 +161,9 @@ unfolding begin_behind
 unread_seen table saw script f = f
 
 -- memory ran out before anything was read
-abbrev pub memory_unread : {table : List Row} (bytes : List ℕ) (lb la wb : Option (List ℕ)) (rb ra k : ℕ) (old : List Device) → Takes lb la bytes → length bytes ≤ (most_used_bytes + 1) → ra ≡ rb
-    → Replayed table Memory (around lb rb wb k old) (around la ra wb k old)
-memory_unread bytes lb la wb rb ra k old taken few reads =
-    record { input = bytes; taken = taken; few_bytes = few; came = none_played (script_of bytes); text = []; written = Puts-nil wb; report = record { more = []; front = refl }; read = inr (none_whole bytes); near = tt; limits = none_bound (length old); stood = λ uses. absurd (cc); boards = refl; untouched = λ none m away. refl; caused = tt; read_faults = λ other. reads; write_faults = λ other. refl }
+abbrev pub memory_unread : {table : List Row} (a : Outside) → Replayed table Memory a a
+memory_unread a =
+    record { input = []; taken = Takes-nil a.input.left; few_bytes = omega arith; came = none_played (script_of []); text = []; written = Puts-nil a.output.written; report = record { more = []; front = refl }; read = inr (none_whole []); near = tt; limits = none_bound (length a.boards); stood = λ uses. absurd (cc); boards = refl; untouched = λ none m away. refl; caused = tt; read_faults = λ other. refl; write_faults = λ other. refl }
 
 -- the status of the script's ending
 by_status : {table : List Row} (s : Status) (input : List ℕ) (at_end : Type 0) (c : Progress table (script_of input)) (text : List ℕ) (r w b v i uses : Type 0) (n : ℕ) → RestsOnTaken s n (bytes_taken input at_end) c text → IsCaused s (ending_of n input) r w b v i → (r → ⊥) → (w → ⊥)
@@ -255,18 +254,18 @@ told_known bytes input la done (line ∷ rest) board taken front known (inr whol
     (known_in_script (input ++ told.0) done (line ∷ more.0) board (sym (append_assoc done (line ∷ []) more.0) ∙ more.1) known)
 
 -- The boards of a script's motes are volumes, if it uses them as they are.
-completed : {table : List Row} (s : Status) (bytes : List ℕ) (a b : Around) → IsUnfailed bytes a b → (UsesBoards (script_of bytes).lines → AreVolumes (motes_in (script_of bytes).lines) a.boards)
+completed : {table : List Row} (s : Status) (bytes : List ℕ) (a b : Outside) → IsUnfailed bytes a b → (UsesBoards (script_of bytes).lines → AreVolumes (motes_in (script_of bytes).lines) a.boards)
     → Replayed table s a b → IsComplete (UsesBoards (script_of bytes).lines) s
 completed s bytes a b all volumes x =
     let old = a.boards in
-    let taken : Takes (Some bytes) b.left x.input = subst (λ (o : Option (List ℕ)). Takes o b.left x.input) all.told x.taken in
-    by_status s x.input (AtEnd b.left) x.came x.text (Rose a.reads b.reads) (Rose a.writes b.writes) (BoardStopped (motes_in x.came.done) old b.boards) (NoVolumeThere x.came old b.boards) ((UsesBoards x.came.done) × NoImageThere x.came old b.boards) (UsesBoards (script_of bytes).lines) (length old) x.read x.caused all.reads all.writes
-    (λ stop enough. all.boards (told_stop bytes x.input b.left x.came.done x.came.rest old b.boards taken x.came.lines stop enough))
+    let taken : Takes (Some bytes) b.input.left x.input = subst (λ (o : Option (List ℕ)). Takes o b.input.left x.input) all.told x.taken in
+    by_status s x.input (AtEnd b.input.left) x.came x.text (Rose a.input.reads b.input.reads) (Rose a.output.writes b.output.writes) (BoardStopped (motes_in x.came.done) old b.boards) (NoVolumeThere x.came old b.boards) ((UsesBoards x.came.done) × NoImageThere x.came old b.boards) (UsesBoards (script_of bytes).lines) (length old) x.read x.caused all.reads all.writes
+    (λ stop enough. all.boards (told_stop bytes x.input b.input.left x.came.done x.came.rest old b.boards taken x.came.lines stop enough))
     (λ v enough.
     let at = v.there.at in
-    let volume = volumes (told_boards bytes x.input b.left x.came.done x.came.rest v.more taken x.came.lines v.next enough) v.there.board at.before (told_known bytes x.input b.left x.came.done x.came.rest v.there.board taken x.came.lines at.known enough) at.was in at.no_volume volume.0 volume.1)
-    (λ i enough. told_uses bytes x.input b.left x.came.done x.came.rest taken x.came.lines i.0 enough)
-    (λ enough. told_end bytes x.input b.left (length old) taken all.limits enough)
+    let volume = volumes (told_boards bytes x.input b.input.left x.came.done x.came.rest v.more taken x.came.lines v.next enough) v.there.board at.before (told_known bytes x.input b.input.left x.came.done x.came.rest v.there.board taken x.came.lines at.known enough) at.was in at.no_volume volume.0 volume.1)
+    (λ i enough. told_uses bytes x.input b.input.left x.came.done x.came.rest taken x.came.lines i.0 enough)
+    (λ enough. told_end bytes x.input b.input.left (length old) taken all.limits enough)
 
 -- if the boards are not used as they are, no start lacks an image
 completed_golden : (uses : Type 0) (s : Status) → (uses → ⊥) → IsComplete uses s → (s ≡ Done) ⊎ (s ≡ Memory)
@@ -274,7 +273,7 @@ completed_golden uses s alone (inl done) = inl done
 completed_golden uses s alone (inr (inl memory)) = inr memory
 completed_golden uses s alone (inr (inr lacks)) = absurd (alone lacks.1)
 
-replays_all : {table : List Row} (s : Status) (a b : Around) → Replayed table s a b → ReplaysAll s a b
+replays_all : {table : List Row} (s : Status) (a b : Outside) → Replayed table s a b → ReplaysAll s a b
 replays_all s a b x = record {
   golden = λ bytes all alone. completed_golden (UsesBoards (script_of bytes).lines) s alone (completed s bytes a b all (λ uses. absurd (alone uses)) x);
   boards = λ bytes all volumes. completed s bytes a b all (λ uses. volumes) x;
@@ -284,16 +283,16 @@ replays_all s a b x = record {
 abbrev pub IsNever : Status → Type 0
 IsNever s = (s ≢ Usage) × (s ≢ Refused) × (s ≢ LinkFault)
 
-replayed_never : {table : List Row} (s : Status) (a b : Around) → Replayed table s a b → IsNever s
+replayed_never : {table : List Row} (s : Status) (a b : Outside) → Replayed table s a b → IsNever s
 replayed_never s a b x =
     let P : Status → Type 0 = λ t. Wrote t (ending_of (length a.boards) x.input) x.came x.text in
     (λ is. subst P is x.report, λ is. subst P is x.report, λ is. subst P is x.report)
 
 -- a script with golden has volumes, and golden starts if nothing else does
-golden_never : {table : List Row} (s : Status) (a b : Around) → (x : Replayed table s a b) → (UsesBoards (script_of x.input).lines → ⊥) → (s ≢ NotAVolume) × (s ≢ NoImage)
+golden_never : {table : List Row} (s : Status) (a b : Outside) → (x : Replayed table s a b) → (UsesBoards (script_of x.input).lines → ⊥) → (s ≢ NotAVolume) × (s ≢ NoImage)
 golden_never s a b x alone =
     let P : Status → Type 0 = λ t. BoardsLeft t x.came a.boards b.boards in
-    let Q : Status → Type 0 = λ t. IsCaused t (ending_of (length a.boards) x.input) (Rose a.reads b.reads) (Rose a.writes b.writes) (BoardStopped (motes_in x.came.done) a.boards b.boards) (NoVolumeThere x.came a.boards b.boards) ((UsesBoards x.came.done) × NoImageThere x.came a.boards b.boards) in (
+    let Q : Status → Type 0 = λ t. IsCaused t (ending_of (length a.boards) x.input) (Rose a.input.reads b.input.reads) (Rose a.output.writes b.output.writes) (BoardStopped (motes_in x.came.done) a.boards b.boards) (NoVolumeThere x.came a.boards b.boards) ((UsesBoards x.came.done) × NoImageThere x.came a.boards b.boards) in (
       λ is. let lacking = subst P is x.boards in alone (subst UsesBoards (ap (λ (ls : List Line). x.came.done ++ ls) (sym lacking.next) ∙ x.came.lines) (uses_next x.came.done lacking.more)),
       λ is. let lacks = subst Q is x.caused in alone (subst UsesBoards x.came.lines (uses_front x.came.done x.came.rest lacks.0)),
     )
@@ -301,7 +300,7 @@ golden_never s a b x alone =
 abbrev pub HeadlineLaw : Type 0
 HeadlineLaw = (table : List Row) (input : List ℕ) (c : Progress table (script_of input)) → Headline c
 
-pub replay_done : (s : Status) (a b : Around) → HeadlineLaw → ((table : List Row) → Replayed table s a b) → ReplayDone s a b
+pub replay_done : (s : Status) (a b : Outside) → HeadlineLaw → ((table : List Row) → Replayed table s a b) → ReplayDone s a b
 replay_done s a b law replayed = record {
   replayed = replayed;
   headline = λ table x. law table x.input x.came;

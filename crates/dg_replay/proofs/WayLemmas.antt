@@ -17,7 +17,7 @@ use Rattle.dg_script.specs.Sizes.{most_used_bytes}
 use Rattle.dg_script.specs.declared.line.Line.{Line}
 use Rattle.dg_script.specs.declared.line.Line.TheVariants.{Nothing, Cut}
 use Rattle.dg_script.specs.declared.place.Place.{Place}
-use Rattle.dg_replay.specs.Around.{Around}
+use Rattle.dg_outside.specs.Outside.{Outside}
 use Rattle.dg_replay.specs.Done.{ReplayDone}
 use Rattle.dg_replay.specs.Ending.{ending_of, script_of}
 use Rattle.dg_replay.specs.Following.{GivenPlayed, NextPlayed, AllAsBefore}
@@ -104,15 +104,15 @@ given_answer r o n text old new at_end read_failed Took a b failed some same cam
 -- ---- how a replay ends
 
 -- what a replay did, from how its script was replayed
-pub replay_ended : {F G : Saw} (s : Status) (a b : Around) → HeadlineLaw → (bytes : List ℕ) → Takes a.left b.left bytes
-    → ((table : List Row) → (length bytes ≤ most_used_bytes + 1) × ScriptReplayed table s (script_of bytes) (ending_of (length a.boards) bytes) (bytes_taken bytes (AtEnd b.left)) (span a.boards b.boards a.written b.written F G) (failures (Rose a.reads b.reads) (Rose a.writes b.writes)))
-    → (s ≢ status.ReadFault → b.reads ≡ a.reads) → (s ≢ status.WriteFault → b.writes ≡ a.writes) → ReplayDone s a b
+pub replay_ended : {F G : Saw} (s : Status) (a b : Outside) → HeadlineLaw → (bytes : List ℕ) → Takes a.input.left b.input.left bytes
+    → ((table : List Row) → (length bytes ≤ most_used_bytes + 1) × ScriptReplayed table s (script_of bytes) (ending_of (length a.boards) bytes) (bytes_taken bytes (AtEnd b.input.left)) (span a.boards b.boards a.output.written b.output.written F G) (failures (Rose a.input.reads b.input.reads) (Rose a.output.writes b.output.writes)))
+    → (s ≢ status.ReadFault → b.input.reads ≡ a.input.reads) → (s ≢ status.WriteFault → b.output.writes ≡ a.output.writes) → ReplayDone s a b
 replay_ended s a b law bytes taken came reads writes = replay_done s a b law (λ table. let r = came table in replayed_of s bytes a b taken r.0 r.1 reads writes)
 
 -- and a watcher saw the events that were played
-pub replay_seen : {F G : Saw} (s : Status) (a b : Around) (bytes : List ℕ) → Takes a.left b.left bytes
-    → ((table : List Row) → (length bytes ≤ most_used_bytes + 1) × ScriptReplayed table s (script_of bytes) (ending_of (length a.boards) bytes) (bytes_taken bytes (AtEnd b.left)) (span a.boards b.boards a.written b.written F G) (failures (Rose a.reads b.reads) (Rose a.writes b.writes)))
-    → (s ≢ status.ReadFault → b.reads ≡ a.reads) → (s ≢ status.WriteFault → b.writes ≡ a.writes) → (table : List Row) → F [] [] → (x : Replayed table s a b) × IsSeen G x.came
+pub replay_seen : {F G : Saw} (s : Status) (a b : Outside) (bytes : List ℕ) → Takes a.input.left b.input.left bytes
+    → ((table : List Row) → (length bytes ≤ most_used_bytes + 1) × ScriptReplayed table s (script_of bytes) (ending_of (length a.boards) bytes) (bytes_taken bytes (AtEnd b.input.left)) (span a.boards b.boards a.output.written b.output.written F G) (failures (Rose a.input.reads b.input.reads) (Rose a.output.writes b.output.writes)))
+    → (s ≢ status.ReadFault → b.input.reads ≡ a.input.reads) → (s ≢ status.WriteFault → b.output.writes ≡ a.output.writes) → (table : List Row) → F [] [] → (x : Replayed table s a b) × IsSeen G x.came
 replay_seen s a b bytes taken came reads writes table f = let r = came table in (replayed_of s bytes a b taken r.0 r.1 reads writes, r.1.left.1 f)
 
 -- a replay that does not end with WriteFault did not stop at a write

@@ -4,7 +4,6 @@ pub mod Ending
 pub mod WholeLines
 pub mod Prefixes
 pub mod Near
-pub mod Around
 pub mod Shown
 pub mod Stages
 pub mod Untouched

@@ -32,7 +32,7 @@ use Rattle.dg_world.specs.Mounted.{StandFor}
 use Rattle.dg_world.specs.Boards.{BoardStopped}
 use Rattle.dg_replay.specs.Boards.{BoardsStand, StoppedIn, EventNext, InSome, NoVolumeIn, LacksImage}
 use Rattle.dg_replay.specs.Items.{StartState, UsesBoards, beginning_of, motes_in, next_items, events_among}
-use Rattle.dg_replay.specs.Around.{Around}
+use Rattle.dg_outside.specs.Outside.{Outside}
 use Rattle.dg_replay.specs.Shown.{Saw, stores_in, events_played}
 use Rattle.dg_replay.specs.Stages.{BytesTaken}
 use Rattle.dg_replay.specs.Ending.{Ending, Ends, NoBoards, TooManyEvents, FaultAt, InBounds, whole_lines, ending_of}
@@ -269,18 +269,18 @@ ReadsNear _ ending input c text = Unit {0}
 
 -- What a replay did. Some bytes were taken from the source: the bytes left before it and after it, if the source exposes them,
 -- say which. The same holds of what was written and the sink.
-pub record Replayed (table : List Row) (status : Status) (a b : Around) : Type 0 where
+pub record Replayed (table : List Row) (status : Status) (a b : Outside) : Type 0 where
   -- what was taken of the input, whatever the outcome: no more than one byte past those that are used
   pub input : List ℕ
-  pub taken : Takes a.left b.left input
+  pub taken : Takes a.input.left b.input.left input
   pub few_bytes : length input ≤ most_used_bytes + 1
   -- how far its script was played
   pub came : Progress table (script_of input)
   -- what was written is the report of that run, or a prefix of it
   pub text : List ℕ
-  pub written : Puts a.written b.written text
+  pub written : Puts a.output.written b.output.written text
   pub report : Wrote status (ending_of (length a.boards) input) came text
-  pub read : RestsOnTaken status (length a.boards) (record { bytes = input; at_end = AtEnd b.left }) came text
+  pub read : RestsOnTaken status (length a.boards) (record { bytes = input; at_end = AtEnd b.input.left }) came text
   pub near : ReadsNear status (ending_of (length a.boards) input) input came text
   -- nothing after the ending was done
   pub limits : InBounds (length a.boards) came.done (map item_played came.played)
@@ -291,9 +291,9 @@ pub record Replayed (table : List Row) (status : Status) (a b : Around) : Type 0
   -- boards at which nothing happens keep their very bytes, also at a `boards` line and in the reading at the end
   pub untouched : Untouched came a.boards b.boards
   -- the status is the one that the rules give to the input, except for out of memory and faults from outside
-  pub caused : IsCaused status (ending_of (length a.boards) input) (Rose a.reads b.reads) (Rose a.writes b.writes)
-      (BoardStopped (motes_in came.done) a.boards b.boards) (NoVolumeThere came a.boards b.boards) (UsesBoards came.done
-      × NoImageThere came a.boards b.boards)
+  pub caused : IsCaused status (ending_of (length a.boards) input) (Rose a.input.reads b.input.reads)
+      (Rose a.output.writes b.output.writes) (BoardStopped (motes_in came.done) a.boards b.boards)
+      (NoVolumeThere came a.boards b.boards) (UsesBoards came.done × NoImageThere came a.boards b.boards)
   -- a read or a write that fails is always reported: its count rises only with its own status
-  pub read_faults : status ≢ ReadFault → b.reads ≡ a.reads
-  pub write_faults : status ≢ WriteFault → b.writes ≡ a.writes
+  pub read_faults : status ≢ ReadFault → b.input.reads ≡ a.input.reads
+  pub write_faults : status ≢ WriteFault → b.output.writes ≡ a.output.writes

@@ -1,7 +1,7 @@
 //! The call that replays a script.
 ghost use Rattle.std.specs.Prelude.{◌≤◌, [], List, map};
 ghost use Rattle.dg_mote.specs.Sizes.{BuffersFit, ValuesAreSmall};
-ghost use Rattle.dg_replay.specs.Around.{around};
+ghost use Rattle.dg_outside.specs.Outside.{Outside, with_input, with_output, with_boards};
 ghost use Rattle.dg_object.specs.Object.{Row};
 ghost use Rattle.dg_replay.specs.Done.{ReplayDone};
 ghost use Rattle.dg_replay.specs.Replayed.{Replayed, IsSeen};
@@ -34,12 +34,12 @@ pub fn replay<S: Source, K: Sink, N: Nor, W: Watcher<N>>(
     boards: &mut Vec<N>,
     watcher: &mut W,
 ) -> Status
-    ensures done { ReplayDone result (around (S.left input.old) (S.faults input.old) (K.written out.old) (K.faults out.old)
-        (map N.device boards.old.items))
-        (around (S.left input.new) (S.faults input.new) (K.written out.new) (K.faults out.new) (map N.device boards.new.items)) }
-    ensures seen { (table : List Row) → W.saw watcher.old [] [] → (x : Replayed table result
-        (around (S.left input.old) (S.faults input.old) (K.written out.old) (K.faults out.old) (map N.device boards.old.items))
-        (around (S.left input.new) (S.faults input.new) (K.written out.new) (K.faults out.new) (map N.device boards.new.items)))
+    ensures done { (rest : Outside) → ReplayDone result
+        (with_boards (map N.device boards.old.items) (with_output (K.Sink, out.old) (with_input (S.Source, input.old) rest)))
+        (with_boards (map N.device boards.new.items) (with_output (K.Sink, out.new) (with_input (S.Source, input.new) rest))) }
+    ensures seen { (rest : Outside) (table : List Row) → W.saw watcher.old [] [] → (x : Replayed table result
+        (with_boards (map N.device boards.old.items) (with_output (K.Sink, out.old) (with_input (S.Source, input.old) rest)))
+        (with_boards (map N.device boards.new.items) (with_output (K.Sink, out.new) (with_input (S.Source, input.new) rest))))
         × IsSeen (W.saw watcher.new) x.came }
     // The arrays of bytes that are alive at once in a mote's call have no more than 256 bytes in all. The value of a mote holds
     // no array of bytes except the outbox and its sets.

@@ -6,10 +6,10 @@ use Rattle.dg_cli.proofs.DripLemmas.{no_link_of_nodes}
 use Rattle.dg_cli.proofs.dispatch.dispatch.Goals as goal
 
 pub returns-in-Replay-clause-done : goal.returns-in-Replay-clause-done
-returns-in-Replay-clause-done g c = said_done c.args.command.now _ c.in-Replay.is _ _ _ c.replay.ensures.done
+returns-in-Replay-clause-done g c = said_done c.args.command.now _ c.in-Replay.is _ _ _ (c.replay.ensures.done (outside (input_of (g.S.Source, c.args.input.now)) (output_of (g.K.Sink, c.args.out.now)) (link_state (g.L.Link, c.args.link.now)) (g.C.Clock.told c.args.clock.now) (map g.N.Nor.device c.args.boards.now.items)))
 
 pub returns-in-Replay-clause-link_fault : goal.returns-in-Replay-clause-link_fault
-returns-in-Replay-clause-link_fault g c = λ e. absurd (c.replay.ensures.done.never.2 e)
+returns-in-Replay-clause-link_fault g c = λ e. absurd ((c.replay.ensures.done (outside (input_of (g.S.Source, c.args.input.now)) (output_of (g.K.Sink, c.args.out.now)) (link_state (g.L.Link, c.args.link.now)) (g.C.Clock.told c.args.clock.now) (map g.N.Nor.device c.args.boards.now.items))).never.2 e)
 
 pub returns-in-Serve-clause-done : goal.returns-in-Serve-clause-done
 returns-in-Serve-clause-done g c =

@@ -18,7 +18,7 @@ end_script-requires g c =
     record { seats = r.stood.seats; links = r.stood.links; cut_fits = r.stood.cut_fits; world = r.last; kept = r.stood.world }
 
 pub returns-in-Ok-play_lines-clause-done : goal.returns-in-Ok-play_lines-clause-done
-returns-in-Ok-play_lines-clause-done g c =
+returns-in-Ok-play_lines-clause-done g c = λ rest.
     let left = g.S.Source.left in
     let reads = g.S.Source.faults in
     let put = g.K.Sink.written in
@@ -38,7 +38,7 @@ returns-in-Ok-play_lines-clause-done g c =
     (λ other. c.in-Ok-play_lines.ensures.unread (λ e. cc)) (λ other. c.end_script.ensures.unfailed other ∙ c.in-Ok-play_lines.ensures.unfailed (λ e. cc))
 
 pub returns-in-Ok-play_lines-clause-seen : goal.returns-in-Ok-play_lines-clause-seen
-returns-in-Ok-play_lines-clause-seen g c =
+returns-in-Ok-play_lines-clause-seen g c = λ rest.
     let left = g.S.Source.left in
     let reads = g.S.Source.faults in
     let put = g.K.Sink.written in
@@ -58,7 +58,7 @@ returns-in-Ok-play_lines-clause-seen g c =
     (λ other. c.in-Ok-play_lines.ensures.unread (λ e. cc)) (λ other. c.end_script.ensures.unfailed other ∙ c.in-Ok-play_lines.ensures.unfailed (λ e. cc))
 
 pub returns-in-Err-ReadFault-clause-done : goal.returns-in-Err-ReadFault-clause-done
-returns-in-Err-ReadFault-clause-done g c =
+returns-in-Err-ReadFault-clause-done g c = λ rest.
     let left = g.S.Source.left in
     let reads = g.S.Source.faults in
     let put = g.K.Sink.written in
@@ -73,7 +73,7 @@ returns-in-Err-ReadFault-clause-done g c =
     (λ other. absurd (other refl)) (λ other. e.ensures.unfailed (λ same. cc))
 
 pub returns-in-Err-ReadFault-clause-seen : goal.returns-in-Err-ReadFault-clause-seen
-returns-in-Err-ReadFault-clause-seen g c =
+returns-in-Err-ReadFault-clause-seen g c = λ rest.
     let left = g.S.Source.left in
     let reads = g.S.Source.faults in
     let put = g.K.Sink.written in
@@ -88,7 +88,7 @@ returns-in-Err-ReadFault-clause-seen g c =
     (λ other. absurd (other refl)) (λ other. e.ensures.unfailed (λ same. cc))
 
 pub returns-in-Err-TooLong-clause-done : goal.returns-in-Err-TooLong-clause-done
-returns-in-Err-TooLong-clause-done g c =
+returns-in-Err-TooLong-clause-done g c = λ rest.
     let left = g.S.Source.left in
     let reads = g.S.Source.faults in
     let put = g.K.Sink.written in
@@ -105,7 +105,7 @@ returns-in-Err-TooLong-clause-done g c =
     (λ other. e.ensures.unread (λ same. cc)) (λ other. c.end_with.ensures.unfailed other ∙ e.ensures.unfailed (λ same. cc))
 
 pub returns-in-Err-TooLong-clause-seen : goal.returns-in-Err-TooLong-clause-seen
-returns-in-Err-TooLong-clause-seen g c =
+returns-in-Err-TooLong-clause-seen g c = λ rest.
     let left = g.S.Source.left in
     let reads = g.S.Source.faults in
     let put = g.K.Sink.written in
@@ -122,7 +122,7 @@ returns-in-Err-TooLong-clause-seen g c =
     (λ other. e.ensures.unread (λ same. cc)) (λ other. c.end_with.ensures.unfailed other ∙ e.ensures.unfailed (λ same. cc))
 
 pub returns-clause-done : goal.returns-clause-done
-returns-clause-done g c =
+returns-clause-done g c = λ rest.
     let left = g.S.Source.left in
     let reads = g.S.Source.faults in
     let put = g.K.Sink.written in
@@ -140,7 +140,7 @@ returns-clause-done g c =
     (λ other. e.ensures.unread (λ same. cc)) (λ other. c.end_at_stop.ensures.unfailed other ∙ e.ensures.unfailed (stopped_unfailed e.field-0 e.stop c.end_at_stop.result _ _ _ is ends other))
 
 pub returns-clause-seen : goal.returns-clause-seen
-returns-clause-seen g c =
+returns-clause-seen g c = λ rest.
     let left = g.S.Source.left in
     let reads = g.S.Source.faults in
     let put = g.K.Sink.written in
@@ -158,12 +158,12 @@ returns-clause-seen g c =
     (λ other. e.ensures.unread (λ same. cc)) (λ other. c.end_at_stop.ensures.unfailed other ∙ e.ensures.unfailed (stopped_unfailed e.field-0 e.stop c.end_at_stop.result _ _ _ is ends other))
 
 pub returns-in_default-clause-done : goal.returns-in_default-clause-done
-returns-in_default-clause-done g c =
-    replay_done _ _ _ c.replays_keep_the_rules.ensures (λ table. memory_unread [] _ _ _ _ _ _ _ (Takes-nil (g.S.Source.left c.args.input.now)) (omega arith) refl)
+returns-in_default-clause-done g c = λ rest.
+    replay_done _ _ _ c.replays_keep_the_rules.ensures (λ table. memory_unread _)
 
 pub returns-in_default-clause-seen : goal.returns-in_default-clause-seen
-returns-in_default-clause-seen g c = λ table f.
-    (memory_unread [] _ _ _ _ _ _ _ (Takes-nil (g.S.Source.left c.args.input.now)) (omega arith) refl, unread_seen table (g.W.Watcher.saw c.args.watcher.now) (script_of []) f)
+returns-in_default-clause-seen g c = λ rest table f.
+    (memory_unread _, unread_seen table (g.W.Watcher.saw c.args.watcher.now) (script_of []) f)
 
 pub returns-in-Ok-play_lines-clause-buffers : goal.returns-in-Ok-play_lines-clause-buffers
 returns-in-Ok-play_lines-clause-buffers g c = let b = c.a_mote_buffers_little.ensures in (b.alive, b.values)
