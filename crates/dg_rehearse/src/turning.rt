@@ -86,13 +86,13 @@ impl Schedule {
         let Some(frame) = numbered(sent) else {
             return Ok(Played::Done);
         };
-        let sent = OnAir {
+        let on_air = OnAir {
             from,
             frame,
             near: neighbours_of(profile.links.as_slice(), from),
         };
         for mote in 0..profile.motes {
-            match self.hear(&sent, mote, profile, plan, stage, boards)? {
+            match self.hear(&on_air, mote, profile, plan, stage, boards)? {
                 Played::Done => {}
                 Played::TooMany => return Ok(Played::TooMany),
             }
@@ -114,6 +114,7 @@ impl Schedule {
         requires under_way { IsUnderWay profile.now plan.now (staging stage.old (map N.device boards.old.items)) }
         requires known { mote < profile.now.motes }
         requires numbered { 1 ≤ sent.now.frame }
+        requires fits { sent.now.frame < 2 ^ 32 }
         requires near { AreNeighbours sent.now.near profile.now.links sent.now.from }
         requires sent { SentBy sent.now.from sent.now.frame (staging stage.old (map N.device boards.old.items)) }
         ensures goes_on { OnOk result (IsContinued profile.now plan.now (staging stage.old (map N.device boards.old.items))
