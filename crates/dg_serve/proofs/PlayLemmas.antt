@@ -22,7 +22,7 @@ use Rattle.dg_world.specs.declared.outcome.Fault.{Fault}
 use Rattle.dg_world.specs.declared.outcome.Fault.TheVariants as fault
 use Rattle.dg_node.specs.declared.node.Node.{Node}
 use Rattle.dg_link.specs.Inboxes.{Inboxes}
-use Rattle.dg_world.specs.Airs.{sent_now}
+use Rattle.dg_shared.specs.Airs.{sent_now}
 use Rattle.dg_serve.specs.Services.{Moment, Steps, new_frames, handed_to}
 use Rattle.dg_serve.specs.inner.Stretches.{neighbours_by}
 use Rattle.dg_serve.specs.Endings.{ServedBoardsStand, EventEnds, HandedToFirst}

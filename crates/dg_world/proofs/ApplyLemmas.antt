@@ -11,14 +11,14 @@ use Rattle.dg_rules.specs.Events.{does, mote_of}
 use Rattle.dg_rules.specs.Steps.{WorldStep}
 use Rattle.dg_script.specs.Ranges.{StepInRange, EventInRange}
 use Rattle.dg_rules.specs.Consistency.{WorldConsistent, StopsConsistent}
-use Rattle.dg_world.specs.Airs.{Carries}
+use Rattle.dg_shared.specs.Airs.{Carries}
 use Rattle.dg_world.specs.Deployments.{Deployment}
 use Rattle.dg_world.specs.Applied.{Applied, FlashAt}
 use Rattle.dg_world.specs.Applying.{IsOf, ApplyDone}
 use Rattle.dg_world.specs.Known.{known_of, OrderTakes, InjectTakes}
 use Rattle.dg_world.specs.Knows.{KnowsThen}
-use Rattle.dg_world.specs.Unseen.{RefusesUnseen}
-use Rattle.dg_world.specs.declared.air.Air.{Air}
+use Rattle.dg_shared.specs.Unseen.{RefusesUnseen}
+use Rattle.dg_shared.specs.declared.air.Air.{Air}
 use Rattle.dg_world.specs.declared.world.WorldFault.{WorldFault}
 use Rattle.dg_world.specs.declared.world.WorldFault.TheVariants.{Memory, Flash, TooMany, NotAVolume, NoImage}
 use Rattle.dg_world.proofs.KnownLemmas.{same_takes}

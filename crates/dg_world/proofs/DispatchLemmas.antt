@@ -13,12 +13,12 @@ use Rattle.dg_base.specs.declared.events.Event.{Event}
 use Rattle.dg_base.specs.declared.events.Event.TheVariants.{Tick, Hear, Last, Reset, Inject, Order as OrderEvent, Frame}
 use Rattle.dg_script.specs.declared.report.Cause.{Cause}
 use Rattle.dg_script.specs.declared.report.Cause.TheVariants as cause
-use Rattle.dg_world.specs.Shareds.{IsShared}
+use Rattle.dg_shared.specs.Shareds.{IsShared}
 use Rattle.dg_world.specs.Worlds.{MoteStands, SiteStands}
 use Rattle.dg_world.specs.inner.OutcomeEndings.{OutcomeEnds}
 use Rattle.dg_node.specs.Hosts.{host}
 use Rattle.dg_world.specs.inner.Contexts.{AppliesIn}
-use Rattle.dg_world.specs.declared.context.EventContext.{EventContext}
+use Rattle.dg_shared.specs.declared.context.EventContext.{EventContext}
 use Rattle.dg_node.specs.declared.node.Node.{Node}
 use Rattle.dg_world.specs.inner.EventOutcomes.{EventOutcome, Halt, Refused}
 
@@ -124,7 +124,3 @@ known_ends D r w m v u a b x known same is ends = subst (λ (y : Bool). OutcomeE
 
 pub unknown_ends : (D : Does) (w : RuleWorld) (m : ℕ) (v : Option Node) (a : Device) (x known : Bool) → x ≡ known → known ≡ false → Looked a a → OutcomeEnds (Ok (Refused cause.Image)) w m (if x then D else Refuses cause.Image) (host a v) (host a v)
 unknown_ends D w m v a x known same is looked = (ap (λ (y : Bool). if y then D else Refuses cause.Image) (same ∙ is), looked, refl)
-
--- which images a mote knows, by its width
-pub knows_by : (wide told known : Bool) (image : ℕ) → wide ≡ told → known ≡ knows wide image → knows told image ≡ known
-knows_by wide told known image same is = ap (λ (x : Bool). knows x image) (sym same) ∙ sym is

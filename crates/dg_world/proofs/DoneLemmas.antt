@@ -27,7 +27,7 @@ use Rattle.dg_base.specs.declared.events.Step.{Step}
 use Rattle.dg_script.specs.declared.report.Cause.{Cause}
 use Rattle.dg_script.specs.declared.report.Report.{Report}
 use Rattle.dg_script.specs.declared.report.Report.TheVariants.{Off, Refused as RefusedLine}
-use Rattle.dg_world.specs.Airs.{sent_now}
+use Rattle.dg_shared.specs.Airs.{sent_now}
 use Rattle.dg_world.specs.Worlds.{MoteStands, SiteStands}
 use Rattle.dg_world.specs.inner.OutcomeEndings.{outcome_frame, outcome_lines}
 use Rattle.dg_world.specs.inner.CutEnds.{EventIsWhole, EventIsCut, EventPlayed}

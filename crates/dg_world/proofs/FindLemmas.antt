@@ -6,7 +6,7 @@ use Rattle.dg_rules.specs.World.{World as RuleWorld, Running, site, store_at}
 use Rattle.dg_rules.specs.Events.{Does, hear_by, unless_off}
 use Rattle.dg_node.specs.Hosts.{host}
 use Rattle.dg_node.specs.declared.node.Node.{Node}
-use Rattle.dg_world.specs.Unseen.{RefusesUnseen}
+use Rattle.dg_shared.specs.Unseen.{RefusesUnseen}
 use Rattle.dg_world.specs.inner.OutcomeEndings.{OutcomeEnds}
 use Rattle.dg_world.specs.inner.EventOutcomes.{EventOutcome, Halt}
 

@@ -1,7 +1,6 @@
 -- Which injection an event is.
-use Rattle.std.proofs.Common.{◌≡◌, ℕ, Bool, false, subst, sym, arith}
+use Rattle.std.proofs.Common.{◌≡◌, ℕ, Bool, false, subst, sym}
 use Rattle.std.specs.Prelude.{◌==◌, if◌then◌else◌, Option, Some, Result}
-use Rattle.std.proofs.lemmas.Bool.Decides.{nat_tests}
 use Rattle.dg_nor.specs.Device.{Device}
 use Rattle.dg_object.specs.Object.{Row}
 use Rattle.dg_node.specs.declared.node.Node.{Node}
@@ -18,6 +17,3 @@ pub known_image : (r : Result EventOutcome Halt) (w : RuleWorld) (m now word : �
 known_image r w m now word image known row v u a b other some ends =
     let P : Bool → Option Row → Type 0 = λ x o. OutcomeEnds r w m (if x then Refuses cause.Reserved else inject_row w m o now word) (host a v) (host b u) in
     subst (λ (x : Bool). P x known) (sym other) (subst (P false) (sym some) ends)
-
-pub not_zero : (n : ℕ) → (n ≡ 0 → ⊥) → (n == 0) ≡ false
-not_zero n other = grind (arith, nat_tests, other)

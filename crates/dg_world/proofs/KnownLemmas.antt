@@ -28,7 +28,8 @@ use Rattle.dg_world.specs.declared.outcome.Power.TheVariants as power
 use Rattle.dg_script.specs.declared.report.Cause.{Cause}
 use Rattle.dg_script.specs.declared.report.Cause.TheVariants as cause
 use Rattle.dg_world.specs.inner.Sees.{InjectReads, EventSees, EventReads, StepSees, SeesCut, SeesInjected, IsUndeclared, KnownAfter}
-use Rattle.dg_world.specs.Known.{beyond, IsLookedInto, MakesKnown, IsInject, IsOrder, OrderTakes, InjectTakes}
+use Rattle.dg_world.specs.Known.{beyond, IsInject, IsOrder, OrderTakes, InjectTakes}
+use Rattle.dg_shared.specs.LookedInto.{IsLookedInto, MakesKnown}
 use Rattle.dg_node.specs.Known.{IsKnownChip, OrderReads}
 use Rattle.dg_base.specs.declared.events.Event.{Event}
 use Rattle.dg_world.specs.declared.outcome.Outcome.{Outcome}

@@ -1,7 +1,4 @@
 pub mod DueLemmas
-pub mod AirLemmas
-pub mod LinkLemmas
-pub mod ImageLemmas
 pub mod WorldLemmas
 pub mod ChipReportLemmas
 pub mod OutcomeLemmas
@@ -10,7 +7,6 @@ pub mod SameLemmas
 pub mod TickLemmas
 pub mod InjectLemmas
 pub mod KnownLemmas
-pub mod MakesLemmas
 pub mod DispatchLemmas
 pub mod UnseenLemmas
 pub mod FindLemmas

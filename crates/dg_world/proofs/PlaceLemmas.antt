@@ -10,7 +10,8 @@ use Rattle.dg_nor.specs.Fuse.{beneath_of}
 use Rattle.dg_nor.proofs.DeviceLemmas.{Endures-same}
 use Rattle.dg_nor.specs.Trail.{last}
 use Rattle.dg_control.specs.Store.{IsOrderlyChip}
-use Rattle.dg_world.specs.Known.{known_of, MakesKnown}
+use Rattle.dg_world.specs.Known.{known_of}
+use Rattle.dg_shared.specs.LookedInto.{MakesKnown}
 use Rattle.dg_node.specs.Known.{IsKnownChip}
 use Rattle.dg_world.specs.Knows.{KnowsThen}
 use Rattle.dg_base.specs.declared.events.Event.{Event}
@@ -27,11 +28,11 @@ use Rattle.dg_rules.specs.Steps.{cut_world, WorldStep}
 use Rattle.dg_base.specs.declared.events.Step.{Step}
 use Rattle.dg_script.specs.declared.report.Report.{Report}
 use Rattle.dg_object.specs.Object.{Row}
-use Rattle.dg_world.specs.Airs.{Carries, sent_now}
-use Rattle.dg_world.specs.Images.{Declares}
-use Rattle.dg_world.specs.Shareds.{IsShared}
-use Rattle.dg_world.specs.declared.links.Links.{Links}
-use Rattle.dg_world.specs.Neighbours.{KnowsLinks}
+use Rattle.dg_shared.specs.Airs.{Carries, sent_now}
+use Rattle.dg_shared.specs.Images.{Declares}
+use Rattle.dg_shared.specs.Shareds.{IsShared}
+use Rattle.dg_shared.specs.declared.links.Links.{Links}
+use Rattle.dg_shared.specs.Neighbours.{KnowsLinks}
 use Rattle.dg_world.specs.Worlds.{MoteStands, SiteStands, MayRun, IsWorld}
 use Rattle.dg_world.specs.Counts.{NoneRose}
 use Rattle.dg_world.specs.Applied.{OneBoard, Applied, FlashAt, RunEnded}
@@ -40,8 +41,8 @@ use Rattle.dg_world.specs.Deployments.{Deployment, deployed}
 use Rattle.dg_world.specs.Cuts.{IsStopped, StepFoundNoImage}
 use Rattle.dg_world.specs.Stepped.{StepDone, board_state}
 use Rattle.dg_world.specs.inner.Steps.{Stepped}
-use Rattle.dg_world.specs.declared.air.Air.{Air}
-use Rattle.dg_world.specs.declared.images.Images.{Images}
+use Rattle.dg_shared.specs.declared.air.Air.{Air}
+use Rattle.dg_shared.specs.declared.images.Images.{Images}
 use Rattle.dg_world.specs.declared.world.WorldFault.{WorldFault}
 use Rattle.dg_world.specs.declared.world.WorldFault.TheVariants as world_fault
 use Rattle.dg_world.specs.declared.world.World.{World}

@@ -17,8 +17,8 @@ use Rattle.dg_world.specs.inner.Outcomes.{outcome_of, halt_of, as_outcome}
 use Rattle.dg_world.specs.inner.EventOutcomes.{Whole}
 use Rattle.dg_world.specs.inner.OutcomeEndings.{outcome_lines, OutcomeEnds}
 use Rattle.dg_node.specs.Hosts.{host}
-use Rattle.dg_world.specs.Unseen.{RefusesUnseen}
-use Rattle.dg_world.specs.declared.context.EventContext.{EventContext}
+use Rattle.dg_shared.specs.Unseen.{RefusesUnseen}
+use Rattle.dg_shared.specs.declared.context.EventContext.{EventContext}
 use Rattle.dg_world.specs.declared.outcome.Fault.{Fault}
 use Rattle.dg_world.specs.declared.outcome.Outcome.{Outcome}
 use Rattle.dg_world.proofs.CutLemmas.{uncut, halted, played_as}

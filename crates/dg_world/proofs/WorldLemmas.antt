@@ -1,6 +1,8 @@
 -- How the code's world stands for a world by the rules: where it begins, and where a board and a mote changed.
 use Rattle.std.proofs.Common.{◌≡◌, ℕ, ◌<◌, ◌≤◌, Bool, false, List, [], length, ap, sym, ◌∙◌, subst, arith}
 use Rattle.std.specs.Prelude.{slice_get, slice_index_or, replicate, Option, Some, None, IfSome}
+use Rattle.std.proofs.Math.Decide.{dec_lt}
+use Rattle.std.proofs.Math.ListN.{get_or-eq_default}
 use Rattle.std.proofs.lemmas.List.{length-map, length-replicate, get_or-replicate, get_or-map}
 use Rattle.std.proofs.lemmas.Bool.{both_ways}
 use Rattle.dg_nor.specs.Device.{Device}
@@ -11,15 +13,15 @@ use Rattle.dg_volume.specs.Stands.{Stands}
 use Rattle.dg_rules.specs.Sizes.{most_motes}
 use Rattle.dg_mote.specs.Timely.{Timely}
 use Rattle.dg_rules.specs.World.{World as RuleWorld, Site, site, first_world, off_site, no_site}
-use Rattle.dg_world.specs.Airs.{Carries}
-use Rattle.dg_world.specs.Images.{NothingDeclared}
-use Rattle.dg_world.specs.Neighbours.{KnowsLinks}
-use Rattle.dg_world.specs.Shareds.{IsShared}
+use Rattle.dg_shared.specs.Airs.{Carries}
+use Rattle.dg_shared.specs.Images.{NothingDeclared}
+use Rattle.dg_shared.specs.Neighbours.{KnowsLinks}
+use Rattle.dg_shared.specs.Shareds.{IsShared}
 use Rattle.dg_world.specs.Worlds.{SiteStands, IsWorld}
-use Rattle.dg_world.specs.declared.shared.Shared.{Shared}
+use Rattle.dg_shared.specs.declared.shared.Shared.{Shared}
 use Rattle.dg_world.specs.declared.world.World.{World}
 use Rattle.dg_node.specs.declared.node.Node.{Node}
-use Rattle.dg_world.proofs.ImageLemmas.{declares_none}
+use Rattle.dg_shared.proofs.ImageLemmas.{declares_none}
 
 first_site : (stores : List Store) (table : List Row) (links : List (ℕ × ℕ)) (narrow : List Bool) (m : ℕ) → m < length stores → site (first_world table links narrow stores) m ≡ off_site (slice_index_or stores m no_site.store)
 first_site stores table links narrow m h = get_or-map off_site stores m no_site.store no_site h
@@ -70,3 +72,11 @@ shares v s boards w rows links is shared = record {
   sites = is.sites;
   orderly = is.orderly;
 }
+
+-- no board is known
+pub none_known : (xs : List Bool) → xs ≡ replicate most_motes false → (m : ℕ) → slice_index_or xs m false ≡ false
+none_known xs e m = ap (λ (ys : List Bool). slice_index_or ys m false) e ∙ by_case (dec_lt m most_motes)
+  where
+    by_case : Dec (m < most_motes) → slice_index_or (replicate most_motes false) m false ≡ false
+    by_case (yes less) = get_or-replicate most_motes m false false less
+    by_case (no more) = get_or-eq_default (replicate most_motes false) false (omega (arith, more, length-replicate most_motes false))

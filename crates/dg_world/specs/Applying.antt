@@ -9,7 +9,7 @@ use Rattle.dg_rules.specs.Events.{does, mote_of}
 use Rattle.dg_world.specs.Applied.{Applied, FlashAt, RunEnded, BoardsAreConsistent, BoardIsConsistent}
 use Rattle.dg_world.specs.Known.{known_of, OrderTakes, InjectTakes}
 use Rattle.dg_world.specs.Knows.{KnowsThen}
-use Rattle.dg_world.specs.Unseen.{RefusesUnseen}
+use Rattle.dg_shared.specs.Unseen.{RefusesUnseen}
 use Rattle.dg_world.specs.Worlds.{IsWorld}
 use Rattle.dg_world.specs.Deployments.{Deployment}
 use Rattle.dg_world.specs.declared.world.WorldFault.{WorldFault}

@@ -1,11 +1,11 @@
 -- Boards that are known: they may be mounted again by binary search (docs/IMAGES.md, "Mounting again").
-use Rattle.std.specs.Prelude.{◌≡◌, ◌≢◌, ◌+◌, ◌*◌, ℕ, Bool, false, slice_index_or}
+use Rattle.std.specs.Prelude.{◌≡◌, ◌+◌, ◌*◌, ℕ, Bool, false, slice_index_or}
 use Rattle.dg_nor.specs.Device.{Device, Took}
 use Rattle.dg_control.specs.Sizes.{place_size}
 use Rattle.dg_slot.specs.Layout.{page_size}
 use Rattle.dg_volume.specs.Remount.{RemountBytes}
 use Rattle.dg_rules.specs.World.{World as RuleWorld}
-use Rattle.dg_rules.specs.Events.{Does, Refuses, does}
+use Rattle.dg_rules.specs.Events.{Refuses, does}
 use Rattle.dg_base.specs.declared.events.Event.{Event}
 use Rattle.dg_base.specs.declared.events.Event.TheVariants.{Tick, Hear, Last, Reset, Inject, Order as OrderEvent, Frame}
 use Rattle.dg_script.specs.declared.report.Cause.{Cause}
@@ -15,22 +15,6 @@ use Rattle.dg_world.specs.declared.world.World.{World}
 -- the world knows the board of this mote
 abbrev pub known_of : World → ℕ → Bool
 known_of v m = slice_index_or v.known m false
-
--- an event that is not refused as `reserved` or `image`
-pub record IsLookedInto (effect : Does) : Type 0 where
-  pub not_reserved : effect ≢ Refuses cause.Reserved
-  pub declared : effect ≢ Refuses cause.Image
-
--- The event makes the board of its mote known, if the board is orderly afterwards: a reset, and an injection or an order that
--- looks at the chip.
-abbrev pub MakesKnown : RuleWorld → Event → Type 0
-MakesKnown w (Tick mote dt word) = ⊥
-MakesKnown w (Hear mote dt word frame) = ⊥
-MakesKnown w (Last from to dt word) = ⊥
-MakesKnown w (Frame mote dt word bytes) = ⊥
-MakesKnown w (Reset mote dt word) = Unit {0}
-MakesKnown w (Inject mote image version dt word) = IsLookedInto (does w (Inject mote image version dt word))
-MakesKnown w (OrderEvent mote number image version dt word) = IsLookedInto (does w (OrderEvent mote number image version dt word))
 
 -- the bytes that an injection with this refusal reads beyond mounting the board again
 abbrev pub beyond : Cause → ℕ

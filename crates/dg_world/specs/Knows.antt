@@ -5,7 +5,8 @@ use Rattle.dg_control.specs.Store.{IsOrderlyChip}
 use Rattle.dg_rules.specs.World.{World as RuleWorld}
 use Rattle.dg_rules.specs.Events.{mote_of}
 use Rattle.dg_base.specs.declared.events.Event.{Event}
-use Rattle.dg_world.specs.Known.{known_of, MakesKnown}
+use Rattle.dg_world.specs.Known.{known_of}
+use Rattle.dg_shared.specs.LookedInto.{MakesKnown}
 use Rattle.dg_world.specs.declared.world.World.{World}
 
 -- the board of a mote was known, or the event made it so

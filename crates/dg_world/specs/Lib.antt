@@ -1,7 +1,3 @@
-pub mod Images
-pub mod Airs
-pub mod Neighbours
-pub mod Shareds
 pub mod Deployments
 pub mod Worlds
 pub mod Due
@@ -14,7 +10,6 @@ pub mod Formatted
 pub mod Known
 pub mod Cuts
 pub mod Stepped
-pub mod Unseen
 pub mod Mounted
 pub mod Alone
 pub mod inner

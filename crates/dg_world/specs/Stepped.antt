@@ -11,7 +11,7 @@ use Rattle.dg_rules.specs.Steps.{WorldStep, blows}
 use Rattle.dg_base.specs.declared.events.Step.{Step}
 use Rattle.dg_rules.specs.Changes.{is_reported}
 use Rattle.dg_script.specs.declared.report.Report.{Report}
-use Rattle.dg_world.specs.Airs.{sent_now}
+use Rattle.dg_shared.specs.Airs.{sent_now}
 use Rattle.dg_world.specs.Worlds.{MoteStands}
 use Rattle.dg_node.specs.declared.node.Node.{Node}
 

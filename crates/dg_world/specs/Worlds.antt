@@ -11,7 +11,7 @@ use Rattle.dg_rules.specs.Sizes.{most_events, most_motes}
 use Rattle.dg_rules.specs.World.{World as RuleWorld, Running, Site, site}
 use Rattle.dg_rules.specs.Premises.{WorldTimely}
 use Rattle.dg_control.specs.Store.{IsOrderlyChip}
-use Rattle.dg_world.specs.Shareds.{IsShared}
+use Rattle.dg_shared.specs.Shareds.{IsShared}
 use Rattle.dg_world.specs.Known.{known_of}
 use Rattle.dg_world.specs.declared.world.World.{World}
 use Rattle.dg_node.specs.declared.node.Node.{Node}

@@ -4,10 +4,8 @@ pub mod ChipReports
 pub mod Contexts
 pub mod Counts
 pub mod CutEnds
-pub mod EventKinds
 pub mod EventOutcomes
 pub mod Faults
-pub mod Finds
 pub mod Finished
 pub mod OutcomeEndings
 pub mod Outcomes

@@ -8,9 +8,7 @@ ghost use Rattle.dg_world.specs.inner.Outcomes.{fault_of, halt_of};
 ghost use Rattle.dg_world.specs.Deployments.{deployed};
 ghost use Rattle.dg_node.specs.declared.report.ChipReport.{ChipReport};
 
-use crate::context::EventContext;
-use crate::events::{dt_at, kind_of, mote_at};
-use crate::known_boards::{has, is_watched, known_after, makes_known, note};
+use crate::known_boards::{has, is_watched, known_after, note};
 use crate::outcome::Fault;
 use crate::stepping::{MOST_LINES, step_at};
 use crate::world::{World, WorldFault};
@@ -18,6 +16,7 @@ use dg_base::Step;
 use dg_nor::Nor;
 use dg_rules::{Cut, Event, Report, agreement_is_kept, consistency_is_kept};
 use dg_script::MOST_EVENTS;
+use dg_shared::{EventContext, dt_at, kind_of, makes_known, mote_at};
 
 impl World {
     /// One step: an event, and the cut that waits for it, if there is one. What is reported of it is appended, its `sent` line

@@ -9,15 +9,15 @@ ghost use Rattle.dg_world.specs.inner.Contexts.{MayApply, AppliesIn};
 ghost use Rattle.dg_world.specs.inner.CutEnds.{ended, EventPlayed};
 ghost use Rattle.dg_node.specs.Hosts.{host};
 ghost use Rattle.dg_world.specs.inner.Outcomes.{IsNothing, as_outcome, ended_as};
-ghost use Rattle.dg_world.specs.Unseen.{RefusesUnseen};
+ghost use Rattle.dg_shared.specs.Unseen.{RefusesUnseen};
 ghost use Rattle.dg_world.specs.inner.Sees.{EventReads, EventSees};
 
-use crate::context::EventContext;
 use crate::dispatch::apply_apart;
 use crate::outcome::{Fault, Outcome, Power};
 use dg_node::Node;
 use dg_nor::{Fused, Nor};
 use dg_rules::{Cut, Event};
+use dg_shared::EventContext;
 
 /// How an event with a cut ended, by whether the cut fired, and whether the board itself is stopped.
 fn end_outcome(blown: bool, stopped: bool, done: Result<(), Fault>) -> Result<Power, Fault>

@@ -14,19 +14,16 @@ ghost use Rattle.dg_rules.specs.Changes.{same_row, is_taken};
 ghost use Rattle.dg_rules.specs.Steps.{declared_as};
 ghost use Rattle.dg_script.specs.Places.{none_narrow};
 ghost use Rattle.dg_base.specs.declared.events.ImageVersion.{ImageVersion};
-ghost use Rattle.dg_world.specs.Images.{row_of_image};
+ghost use Rattle.dg_shared.specs.Images.{row_of_image};
 ghost use Rattle.dg_world.specs.Worlds.{IsWorld};
 ghost use Rattle.dg_world.specs.Known.{known_of};
 
-use crate::air::Air;
-use crate::images::{Image, Images};
-use crate::links::{Links, MOST_MOTES};
 use crate::outcome::Outcome;
-use crate::shared::{Shared, mark};
 use crate::world::{DeclareFault, World};
 use dg_base::Bytes;
 use dg_node::Node;
 use dg_rules::ImageVersion;
+use dg_shared::{Air, Image, Images, Links, MOST_MOTES, Shared};
 use std::alloc::{AllocError, Global};
 
 impl World {
@@ -154,4 +151,13 @@ fn is_same(kept: &Image, name: &Bytes, content: &Bytes) -> bool
         (row_of image_version.image image_version.version name.now content.now) }
 {
     kept.name.as_slice() == name.as_slice() && kept.content.as_slice() == content.as_slice()
+}
+
+/// Marks the mote with this number, if there may be one.
+fn mark(motes: &mut [bool], mote: usize)
+    ensures { motes.new ≡ slice_set motes.old mote true }
+{
+    if mote < motes.len() {
+        motes[mote] = true;
+    }
 }

@@ -6,13 +6,11 @@ ghost use Rattle.dg_script.specs.Ranges.{EventInRange};
 ghost use Rattle.dg_rules.specs.Sizes.{most_motes};
 ghost use Rattle.dg_world.specs.inner.OutcomeEndings.{OutcomeEnds};
 ghost use Rattle.dg_node.specs.Hosts.{host};
-ghost use Rattle.dg_world.specs.Unseen.{RefusesUnseen};
+ghost use Rattle.dg_shared.specs.Unseen.{RefusesUnseen};
 ghost use Rattle.dg_world.specs.inner.Outcomes.{IsNothing, as_outcome};
 ghost use Rattle.dg_world.specs.inner.Sees.{EventSees, EventReads};
 ghost use Rattle.dg_world.specs.inner.Contexts.{MayApply, AppliesIn};
 
-use crate::context::EventContext;
-use crate::finding::{find_last, find_nth};
 use crate::hearing::{hear, hear_found};
 use crate::injecting::inject_known;
 use crate::ordering::order_known;
@@ -22,6 +20,7 @@ use crate::ticking::tick;
 use dg_node::Node;
 use dg_nor::Nor;
 use dg_rules::{Event, ImageVersion};
+use dg_shared::{EventContext, find_last, find_nth};
 
 /// What an event does at the board of its mote, which runs `runs`. Where the board is known it is mounted again by halving. It is
 /// not inlined, and takes the context by value, so that the common events, which pass it by, need none in memory.

@@ -112,7 +112,7 @@ impl World {
 }
 
 /// A board stopped while it was read.
-#[derive(Clone, Copy, Debug, PartialEq, Eq)]
+#[derive(Clone, Copy)]
 struct BoardStopped {
     /// The number of the board, from 0.
     board: u8,

@@ -2,11 +2,11 @@
 ghost use Rattle.std.specs.Prelude.{◌≡◌, ◌^◌, ◌<◌, ℕ, OnOk, OnErr, IsTrue};
 ghost use Rattle.dg_rules.specs.World.{World as RuleWorld, site, store_at};
 ghost use Rattle.dg_rules.specs.Events.{Does, hear_by, unless_off};
-ghost use Rattle.dg_world.specs.inner.Finds.{IsFound, IsRanged};
+ghost use Rattle.dg_shared.specs.Finds.{IsFound, IsRanged};
 ghost use Rattle.dg_world.specs.Worlds.{SiteStands, MayRun};
 ghost use Rattle.dg_world.specs.inner.OutcomeEndings.{LeavesChip, OutcomeEnds};
 ghost use Rattle.dg_node.specs.Hosts.{host};
-ghost use Rattle.dg_world.specs.Unseen.{RefusesUnseen};
+ghost use Rattle.dg_shared.specs.Unseen.{RefusesUnseen};
 ghost use Rattle.dg_world.specs.inner.EventOutcomes.{Changes};
 ghost use Rattle.dg_world.specs.inner.Outcomes.{IsNothing, as_outcome, outcome_of};
 ghost use Rattle.dg_node.specs.declared.report.ChipReport.{ChipReport};
@@ -15,12 +15,12 @@ ghost use Rattle.dg_volume.specs.Store.{Store};
 ghost use Rattle.dg_volume.specs.Stands.{Tells};
 ghost use Rattle.dg_node.specs.Reports.{IsReportOf};
 
-use crate::finding::Found;
 use crate::outcome::{Fault, Outcome};
 use dg_mote::Heard;
 use dg_node::{ChipReport, Node, report_chip};
 use dg_nor::{Nor, Stopped};
 use dg_rules::Cause;
+use dg_shared::Found;
 use dg_volume::Volume;
 
 /// Whether such an answer surely leaves what a chip keeps, and its order, unchanged.

@@ -8,24 +8,22 @@ ghost use Rattle.dg_volume.specs.Stands.{NothingLent, Mounted};
 ghost use Rattle.dg_volume.specs.Table.{row_at};
 ghost use Rattle.dg_rules.specs.World.{World as RuleWorld, Running, site, wide_at};
 ghost use Rattle.dg_rules.specs.Events.{Refuses, reloaded, inject_cause, inject_row, knows, injects};
-ghost use Rattle.dg_world.specs.Images.{Declares, row_of_image};
-ghost use Rattle.dg_world.specs.Shareds.{IsShared};
+ghost use Rattle.dg_shared.specs.Images.{Declares, row_of_image};
+ghost use Rattle.dg_shared.specs.Shareds.{IsShared};
 ghost use Rattle.dg_world.specs.Worlds.{MoteStands, SiteStands, MayRun};
 ghost use Rattle.dg_world.specs.inner.OutcomeEndings.{OutcomeEnds};
 ghost use Rattle.dg_node.specs.Hosts.{host};
-ghost use Rattle.dg_world.specs.Unseen.{RefusesUnseen};
+ghost use Rattle.dg_shared.specs.Unseen.{RefusesUnseen};
 ghost use Rattle.dg_world.specs.inner.Outcomes.{IsNothing, as_outcome, outcome_of};
 ghost use Rattle.dg_world.specs.inner.Sees.{SeesInjected, InjectReads};
 ghost use Rattle.dg_node.specs.Known.{IsKnownChip, SeesOrder};
 
 use crate::act_outcomes::{act_fault, note_injected};
-use crate::context::EventContext;
-use crate::images::Image;
 use crate::outcome::{Fault, Outcome};
-use dg_frame::NARROW_IMAGES;
 use dg_node::{ImageBytes, Node};
 use dg_nor::Nor;
 use dg_rules::{Cause, ImageVersion};
+use dg_shared::{EventContext, Image};
 
 /// Injects an image.
 fn inject_image<N: Nor>(
@@ -109,13 +107,6 @@ fn inject<N: Nor>(
     }
 }
 
-/// Whether a mote knows the images of this number: a narrow one only those that its frames name, and golden.
-pub(crate) fn knows(wide: bool, image: u8) -> bool
-    ensures { result ≡ knows wide image }
-{
-    wide || usize::from(image) <= NARROW_IMAGES
-}
-
 /// Injects this version of an image, if the mote knows the image and it was declared.
 #[inline(never)]
 pub(crate) fn inject_known<N: Nor>(
@@ -148,7 +139,7 @@ pub(crate) fn inject_known<N: Nor>(
     ensures reads { OnOk result (InjectReads context.now.known outcome.new.refused (N.device board.old) (N.device board.new)) }
     ensures same_reference { (N.device board.new).references ≡ (N.device board.old).references }
 {
-    if !knows(context.shared.is_wide(context.mote), image_version.image) {
+    if !context.shared.knows(context.mote, image_version.image) {
         outcome.refused = Some(Cause::Image);
         outcome.is_told = true;
         return Ok(());

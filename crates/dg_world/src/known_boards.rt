@@ -1,24 +1,16 @@
 //! Which boards a world knows: those that may be mounted again by binary search.
-ghost use Rattle.std.specs.Prelude.{◌||◌, ◌≡◌, ◌≢◌, ◌↔◌, ◌<◌, ℕ, List, Option, Some, None, IsTrue, true, false, length};
+ghost use Rattle.std.specs.Prelude.{◌||◌, ◌≡◌, ◌≢◌, ◌<◌, ℕ, List, Option, Some, None, true, false, length};
 ghost use Rattle.std.specs.Prelude.{slice_index_or};
 ghost use Rattle.dg_nor.specs.Device.{Device};
 ghost use Rattle.dg_rules.specs.Sizes.{most_motes};
-ghost use Rattle.dg_rules.specs.World.{World as RuleWorld, wide_at};
-ghost use Rattle.dg_rules.specs.Events.{knows, mote_of};
-ghost use Rattle.dg_base.specs.declared.events.Event.TheVariants.{Inject};
-ghost use Rattle.dg_world.specs.Shareds.{IsShared};
+ghost use Rattle.dg_rules.specs.World.{World as RuleWorld};
 ghost use Rattle.dg_world.specs.Worlds.{IsWorld};
-ghost use Rattle.dg_world.specs.Known.{known_of, MakesKnown};
-ghost use Rattle.dg_world.specs.inner.EventKinds.{IsEventKind};
+ghost use Rattle.dg_world.specs.Known.{known_of};
 ghost use Rattle.dg_world.specs.inner.Sees.{KnownAfter};
 
-use crate::events::EventKind;
-use crate::injecting::knows;
-use crate::links::MOST_MOTES;
-use crate::shared::Shared;
 use crate::world::World;
 use dg_node::Node;
-use dg_rules::{Event, ImageVersion};
+use dg_shared::MOST_MOTES;
 
 impl World {
     /// Whether the board of a mote is known: it is orderly, and the world mounts it again by binary search. A reset makes the
@@ -28,58 +20,6 @@ impl World {
         ensures { result ≡ known_of self.now mote }
     {
         has(&self.known, mote)
-    }
-}
-
-/// Whether an event makes the board of its mote, which has this number, known, if that is orderly after it.
-#[inline(always)]
-pub(crate) fn makes_known(shared: &Shared, mote: u8, kind: EventKind, event: &Event) -> bool
-    requires mote { mote < most_motes }
-    requires kind { IsEventKind kind event.now }
-    ensures { (w : RuleWorld) → IsShared shared.now w → mote_of event.now ≡ mote → IsTrue result ↔ MakesKnown w event.now }
-{
-    match kind {
-        EventKind::Tick { .. } => false,
-        EventKind::Last { .. } => false,
-        EventKind::Other => looks_into(shared, mote, event),
-    }
-}
-
-fn looks_into(shared: &Shared, mote: u8, event: &Event) -> bool
-    requires { mote < most_motes }
-    ensures { (w : RuleWorld) → IsShared shared.now w → mote_of event.now ≡ mote → IsTrue result ↔ MakesKnown w event.now }
-{
-    match event {
-        Event::Tick { .. } | Event::Hear { .. } | Event::Last { .. } | Event::Frame { .. } => false,
-        Event::Reset { .. } => true,
-        Event::Order { image, .. } => is_known_to(shared, mote, *image),
-        Event::Inject { image, version, .. } => is_declared(shared, mote, *image, *version),
-    }
-}
-
-/// Whether a mote knows the images of this number.
-fn is_known_to(shared: &Shared, mote: u8, image: u8) -> bool
-    requires { mote < most_motes }
-    ensures { (w : RuleWorld) → IsShared shared.now w → knows (wide_at w mote) image ≡ result }
-{
-    knows(shared.is_wide(mote), image)
-}
-
-/// Whether an image is declared that is not golden, and that a mote knows.
-fn is_declared(shared: &Shared, mote: u8, image: u8, version: u32) -> bool
-    requires { mote < most_motes }
-    ensures { (w : RuleWorld) (dt word : ℕ) → IsShared shared.now w
-        → IsTrue result ↔ MakesKnown w (Inject mote image version dt word) }
-{
-    if !is_known_to(shared, mote, image) {
-        return false;
-    }
-    if image == 0 {
-        return false;
-    }
-    match shared.images.get(ImageVersion { image, version }) {
-        None => false,
-        Some(_) => true,
     }
 }
 

@@ -4,23 +4,22 @@ ghost use Rattle.dg_volume.specs.Sizes.{images};
 ghost use Rattle.dg_volume.specs.Changes.{order_refusal};
 ghost use Rattle.dg_rules.specs.World.{World as RuleWorld, site, store_at, wide_at};
 ghost use Rattle.dg_rules.specs.Events.{Refuses, order_cause, order_unless, knows, orders};
-ghost use Rattle.dg_world.specs.Shareds.{IsShared};
+ghost use Rattle.dg_shared.specs.Shareds.{IsShared};
 ghost use Rattle.dg_world.specs.Worlds.{SiteStands, MayRun};
 ghost use Rattle.dg_world.specs.inner.OutcomeEndings.{OutcomeEnds};
 ghost use Rattle.dg_node.specs.Hosts.{host};
-ghost use Rattle.dg_world.specs.Unseen.{RefusesUnseen};
+ghost use Rattle.dg_shared.specs.Unseen.{RefusesUnseen};
 ghost use Rattle.dg_world.specs.inner.Outcomes.{IsNothing, as_outcome, outcome_of};
 ghost use Rattle.dg_world.specs.inner.Sees.{SeesInjected};
 ghost use Rattle.dg_node.specs.Known.{IsKnownChip, SeesOrder, OrderReads};
 
 use crate::act_outcomes::{act_fault, note_ordered};
-use crate::context::EventContext;
-use crate::injecting::knows;
 use crate::outcome::{Fault, Outcome};
 use dg_control::Order;
 use dg_node::Node;
 use dg_nor::Nor;
 use dg_rules::{Cause, ImageVersion};
+use dg_shared::EventContext;
 use dg_volume::a_volume_bounds_a_remount;
 
 /// Keeps an order.
@@ -100,7 +99,7 @@ pub(crate) fn order_known<N: Nor>(
     ensures same_reference { (N.device board.new).references ≡ (N.device board.old).references }
 {
     a_volume_bounds_a_remount();
-    if !knows(context.shared.is_wide(context.mote), image_version.image) {
+    if !context.shared.knows(context.mote, image_version.image) {
         outcome.refused = Some(Cause::Image);
         outcome.is_told = true;
         return Ok(());

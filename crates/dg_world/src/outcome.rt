@@ -155,7 +155,7 @@ impl From<Stopped> for Fault {
 }
 
 /// How an event whose power may have been cut ended.
-#[derive(Clone, Copy, Debug, PartialEq, Eq)]
+#[derive(Clone, Copy)]
 pub(crate) enum Power {
     Stays,
     /// The cut fired.

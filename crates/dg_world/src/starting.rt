@@ -4,17 +4,17 @@ ghost use Rattle.dg_volume.specs.Stands.{Stands};
 ghost use Rattle.dg_mote.specs.Effects.{reset_effect};
 ghost use Rattle.dg_rules.specs.World.{World as RuleWorld, store_at, wide_at};
 ghost use Rattle.dg_rules.specs.Events.{of_effect};
-ghost use Rattle.dg_world.specs.Shareds.{IsShared};
+ghost use Rattle.dg_shared.specs.Shareds.{IsShared};
 ghost use Rattle.dg_world.specs.inner.OutcomeEndings.{OutcomeEnds};
 ghost use Rattle.dg_node.specs.Hosts.{host};
 ghost use Rattle.dg_world.specs.Alone.{Powers};
 ghost use Rattle.dg_world.specs.inner.Outcomes.{IsNothing, as_outcome};
 ghost use Rattle.dg_world.specs.inner.Sees.{SeesStart};
 
-use crate::context::EventContext;
 use crate::outcome::{Fault, Outcome};
 use dg_node::{At, Node};
 use dg_nor::Nor;
+use dg_shared::EventContext;
 
 /// A board starts by power. What ran on it is dropped.
 pub(crate) fn reset<N: Nor>(

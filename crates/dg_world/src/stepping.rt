@@ -21,16 +21,14 @@ ghost use Rattle.dg_world.specs.inner.OutcomeEndings.{outcome_lines, frame_lines
 ghost use Rattle.dg_world.specs.inner.Outcomes.{IsNothing, outcome_of};
 ghost use Rattle.dg_world.specs.inner.Steps.{CutChangesAre, CutReported, CutRead, StepDid};
 ghost use Rattle.dg_world.specs.Stepped.{board_state};
-ghost use Rattle.dg_world.specs.Known.{IsOrder, MakesKnown};
+ghost use Rattle.dg_world.specs.Known.{IsOrder};
+ghost use Rattle.dg_shared.specs.LookedInto.{MakesKnown};
 ghost use Rattle.dg_world.specs.inner.Sees.{SeesCut};
 ghost use Rattle.dg_node.specs.Known.{IsKnownChip, SeesOrder};
 
 use crate::chip_report::{MOST_CHANGES, push_changes, push_line};
-use crate::context::EventContext;
 use crate::cutting::play_cut;
 use crate::dispatch::apply_apart;
-use crate::events::EventKind;
-use crate::finding::find_last;
 use crate::hearing::hear_found;
 use crate::outcome::{Fault, Outcome, Power};
 use crate::ticking::tick;
@@ -39,6 +37,7 @@ use dg_mote::Outbox;
 use dg_node::{ChipReport, Node, StartedImage, mount_known, report_chip};
 use dg_nor::Nor;
 use dg_rules::{Cause, Cut, Event, Report};
+use dg_shared::{EventContext, EventKind, find_last};
 use dg_volume::{Volume, a_volume_bounds_a_remount};
 
 /// The most lines that are reported of a step.

@@ -10,10 +10,10 @@ ghost use Rattle.dg_rules.specs.World.{World as RuleWorld, Running, site, store_
 ghost use Rattle.dg_world.specs.Due.{due_at};
 ghost use Rattle.dg_world.specs.Worlds.{IsWorld};
 
-use crate::links::MOST_MOTES;
 use crate::world::World;
 use dg_frame::Message;
 use dg_mote::Heard;
+use dg_shared::MOST_MOTES;
 use dg_volume::Volume;
 
 impl World {

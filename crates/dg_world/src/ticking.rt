@@ -7,7 +7,7 @@ ghost use Rattle.dg_rules.specs.Events.{of_effect, tick_does};
 ghost use Rattle.dg_world.specs.Worlds.{MoteStands, SiteStands, IsTimelyMote, MayRun};
 ghost use Rattle.dg_world.specs.inner.OutcomeEndings.{OutcomeEnds};
 ghost use Rattle.dg_node.specs.Hosts.{host};
-ghost use Rattle.dg_world.specs.Unseen.{RefusesUnseen};
+ghost use Rattle.dg_shared.specs.Unseen.{RefusesUnseen};
 ghost use Rattle.dg_world.specs.inner.Outcomes.{IsNothing, as_outcome};
 ghost use Rattle.dg_world.specs.inner.Sees.{SeesMote};
 

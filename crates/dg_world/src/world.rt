@@ -1,8 +1,7 @@
 //! The world as the code keeps it.
-use crate::links::MOST_MOTES;
 use crate::outcome::Outcome;
-use crate::shared::Shared;
 use dg_node::Node;
+use dg_shared::{MOST_MOTES, Shared};
 
 /// A world of 1 to 16 motes. Their boards are kept apart from it.
 #[derive(Drop)]

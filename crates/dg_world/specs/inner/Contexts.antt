@@ -5,10 +5,10 @@ use Rattle.dg_rules.specs.World.{World as RuleWorld, site}
 use Rattle.dg_rules.specs.Events.{mote_of, dt_of}
 use Rattle.dg_base.specs.declared.events.Event.{Event}
 use Rattle.dg_node.specs.Known.{IsKnownChip}
-use Rattle.dg_world.specs.inner.EventKinds.{IsEventKind}
-use Rattle.dg_world.specs.Shareds.{IsShared}
+use Rattle.dg_shared.specs.EventKinds.{IsEventKind}
+use Rattle.dg_shared.specs.Shareds.{IsShared}
 use Rattle.dg_world.specs.Worlds.{SiteStands, MayRun}
-use Rattle.dg_world.specs.declared.context.EventContext.{EventContext}
+use Rattle.dg_shared.specs.declared.context.EventContext.{EventContext}
 use Rattle.dg_node.specs.declared.node.Node.{Node}
 
 -- The event may be applied in this context: the kind and the mote are its own, what runs there is in time, and a board that

@@ -12,7 +12,8 @@ use Rattle.dg_base.specs.declared.events.Event.TheVariants.{Tick, Hear, Last, Re
 use Rattle.dg_script.specs.declared.report.Cause.{Cause}
 use Rattle.dg_script.specs.declared.report.Cause.TheVariants as cause
 use Rattle.dg_node.specs.Known.{SeesOrder, OrderReads}
-use Rattle.dg_world.specs.Known.{MakesKnown, beyond}
+use Rattle.dg_world.specs.Known.{beyond}
+use Rattle.dg_shared.specs.LookedInto.{MakesKnown}
 use Rattle.dg_world.specs.inner.EventOutcomes.{EventOutcome, Refused, Unreported, Sends, Changes, Starts}
 use Rattle.dg_world.specs.inner.Outcomes.{outcome_of}
 use Rattle.dg_world.specs.declared.outcome.Outcome.{Outcome}

@@ -15,11 +15,11 @@ use Rattle.dg_world.specs.inner.Sees.{StepSees}
 use Rattle.dg_world.specs.Known.{OrderTakes, InjectTakes}
 use Rattle.dg_world.specs.inner.Contexts.{AppliesIn}
 use Rattle.dg_world.specs.inner.Outcomes.{stepped}
-use Rattle.dg_world.specs.Unseen.{RefusesUnseen}
+use Rattle.dg_shared.specs.Unseen.{RefusesUnseen}
 use Rattle.dg_world.specs.inner.Counts.{CountStays}
 use Rattle.dg_world.specs.Cuts.{IsStopped, StepFoundNoImage}
 use Rattle.dg_world.specs.inner.OutcomeEndings.{BeforeReports}
-use Rattle.dg_world.specs.declared.context.EventContext.{EventContext}
+use Rattle.dg_shared.specs.declared.context.EventContext.{EventContext}
 use Rattle.dg_node.specs.declared.report.ChipReport.{ChipReport}
 use Rattle.dg_world.specs.declared.outcome.Outcome.{Outcome}
 use Rattle.dg_world.specs.inner.EventOutcomes.{Halt, Stopped, NotAVolume, NoImage}

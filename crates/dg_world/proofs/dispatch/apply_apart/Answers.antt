@@ -1,7 +1,7 @@
 use Rattle.std.proofs.Common.{subst, sym, ap, ◌∙◌}
 use Rattle.dg_rules.specs.World.{site, store_at, frame_at}
 use Rattle.dg_rules.specs.Events.{hear_by, heard_sent, mote_of}
-use Rattle.dg_world.specs.inner.Finds.{last_heard}
+use Rattle.dg_shared.specs.Finds.{last_heard}
 use Rattle.dg_world.specs.inner.Outcomes.{as_outcome}
 use Rattle.dg_world.proofs.DispatchLemmas.{ApplyEnsures, tick_applies, hear_applies, last_applies, frame_applies, reset_applies, inject_applies, order_applies, ends_at}
 use Rattle.dg_world.proofs.UnseenLemmas.{StaysUnused, unseen_at, tick_unseen, hear_unseen, last_unseen, frame_unseen, reset_unseen, inject_unseen, order_unseen}

@@ -6,7 +6,7 @@ use Rattle.dg_rules.specs.World.{site, store_at}
 use Rattle.dg_rules.specs.Events.{hear_by, unless_off}
 use Rattle.dg_frame.specs.Spelling.{frame_of}
 use Rattle.dg_world.specs.inner.EventOutcomes.{Refused, Unreported, Changes, Stopped}
-use Rattle.dg_world.specs.inner.Finds.{IsFound}
+use Rattle.dg_shared.specs.Finds.{IsFound}
 use Rattle.dg_world.proofs.FindLemmas.{heard_ends, heard_unseen}
 use Rattle.dg_node.specs.declared.node.Node.{Node}
 use Rattle.dg_world.proofs.OutcomeLemmas.{told_as, is_refused, is_sent}

@@ -1,10 +1,11 @@
 use Rattle.dg_volume.specs.Table.{row_at}
-use Rattle.dg_world.specs.Images.{row_of_image}
+use Rattle.dg_shared.specs.Images.{row_of_image}
 use Rattle.dg_world.specs.inner.Outcomes.{as_outcome}
-use Rattle.dg_world.proofs.ImageLemmas.{known_row}
-use Rattle.dg_world.proofs.InjectLemmas.{known_image, not_zero}
+use Rattle.dg_shared.proofs.ImageLemmas.{known_row}
+use Rattle.dg_shared.proofs.MakesLemmas.{not_zero}
+use Rattle.dg_world.proofs.InjectLemmas.{known_image}
 use Rattle.std.proofs.Common.{refl}
-use Rattle.dg_world.proofs.UnseenLemmas.{image_unseen}
+use Rattle.dg_shared.proofs.UnseenLemmas.{image_unseen}
 use Rattle.dg_world.proofs.injecting.inject.Goals as goal
 
 pub returns-in-Some-clause-ends : goal.returns-in-Some-clause-ends

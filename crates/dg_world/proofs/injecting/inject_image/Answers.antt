@@ -6,7 +6,7 @@ use Rattle.dg_rules.specs.Events.{inject_row, inject_unless}
 use Rattle.dg_node.specs.Hosts.{host}
 use Rattle.dg_world.specs.inner.ActOutcomes.{injected_outcome}
 use Rattle.dg_world.specs.inner.Outcomes.{outcome_of, halt_of}
-use Rattle.dg_world.specs.Images.{row_of_image}
+use Rattle.dg_shared.specs.Images.{row_of_image}
 use Rattle.dg_world.specs.inner.OutcomeEndings.{OutcomeEnds}
 use Rattle.dg_world.proofs.ActingLemmas.{node_running, stands_in, inject_ends, inject_reads}
 use Rattle.dg_world.proofs.OutcomeLemmas.{told_as}

@@ -4,8 +4,8 @@ use Rattle.dg_base.specs.declared.events.Event.{Event}
 use Rattle.dg_rules.specs.Events.{mote_of}
 use Rattle.dg_script.specs.Ranges.{EventInRange}
 use Rattle.dg_world.specs.Stepped.{board_state}
-use Rattle.dg_world.specs.inner.EventKinds.{IsEventKind}
-use Rattle.dg_world.specs.inner.Finds.{last_heard}
+use Rattle.dg_shared.specs.EventKinds.{IsEventKind}
+use Rattle.dg_shared.specs.Finds.{last_heard}
 use Rattle.dg_world.specs.inner.Outcomes.{as_outcome}
 use Rattle.dg_world.proofs.DispatchLemmas.{ApplyEnsures, tick_applies, last_applies}
 use Rattle.dg_world.proofs.UnseenLemmas.{StaysUnused, tick_unseen, last_unseen}

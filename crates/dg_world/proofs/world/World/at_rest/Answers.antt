@@ -1,7 +1,6 @@
 use Rattle.std.proofs.Common.{refl, []}
 use Rattle.dg_script.specs.Places.{none_narrow}
-use Rattle.dg_world.proofs.MakesLemmas.{none_known}
-use Rattle.dg_world.proofs.WorldLemmas.{begins}
+use Rattle.dg_world.proofs.WorldLemmas.{begins, none_known}
 use Rattle.dg_world.proofs.world.World.at_rest.Goals as goal
 
 pub returns-clause-begins : goal.returns-clause-begins

@@ -4,9 +4,9 @@ use Rattle.dg_base.specs.declared.events.ImageVersion.{ImageVersion}
 use Rattle.dg_object.specs.Object.{Row, row_of}
 use Rattle.dg_rules.specs.Steps.{declared_as}
 use Rattle.dg_world.specs.Worlds.{IsWorld}
-use Rattle.dg_world.specs.declared.shared.Shared.{Shared}
+use Rattle.dg_shared.specs.declared.shared.Shared.{Shared}
 use Rattle.dg_world.specs.declared.world.World.{World}
-use Rattle.dg_world.proofs.ImageLemmas.{taken_by, unknown_row}
+use Rattle.dg_shared.proofs.ImageLemmas.{taken_by, unknown_row}
 use Rattle.dg_world.proofs.WorldLemmas.{shares}
 use Rattle.dg_world.proofs.world.World.declare.Goals as goal
 

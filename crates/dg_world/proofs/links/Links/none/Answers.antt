@@ -1,6 +1,0 @@
-use Rattle.std.proofs.Common.{[], refl}
-use Rattle.dg_world.proofs.LinkLemmas.{none_known}
-use Rattle.dg_world.proofs.links.Links.none.Goals as goal
-
-pub returns : goal.returns
-returns c = none_known _ c.none.result [] c.none.ensures refl refl
