@@ -18,7 +18,7 @@ use Rattle.dg_volume.specs.Store.{Store}
 use Rattle.dg_volume.specs.Stands.{IsVolume}
 use Rattle.dg_rules.specs.Events.{mote_of}
 use Rattle.dg_outside.specs.Outside.{Outside, InputState, OutputState, LinkState, outside}
-use Rattle.dg_end.specs.Lines.{status_of, last_line}
+use Rattle.dg_end.specs.Lines.{status_of, last_line, HasFixedLine}
 use Rattle.dg_end.specs.Writes.{WritesLast}
 use Rattle.dg_end.specs.declared.ends.End.{End}
 use Rattle.dg_seed.specs.Draws.{first_generator}
@@ -137,12 +137,12 @@ module _ (profile : NetProfile) (seed turns : ℕ) (a : Outside) (after : InputS
 
   -- all turns were played
   pub began_done : ServedParts profile.motes 0 profile.motes profile.links (plan profile.motes turns) p q → Began status.Done profile seed turns (record a { boards = p.boards }) (outside_of after q)
-  began_done w = record { why = None; traced = record { written = q.written; writes = q.faults }; ran = ran_all w; ended = (refl, refl) }
+  began_done w = record { why = None; traced = record { written = q.written; writes = q.faults }; ran = ran_all w; ended = (refl, refl); room = tt }
 
   -- it stopped, and its last line was written
   pub began_stopped : (why : Stop) (answer : Status) (told : OutputState) → PartsHalted why profile.motes 0 profile.links (plan profile.motes turns) p q → WritesLast answer (status_of (end_of_stop why)) (last_line (end_of_stop why)) (record { written = q.written; writes = q.faults }) told
-      → Began answer profile seed turns (record a { boards = p.boards }) (record (outside_of after q) { output = told })
-  began_stopped why answer told h ended = record { why = Some why; traced = record { written = q.written; writes = q.faults }; ran = ran_some why h; ended = ended }
+      → (HasFixedLine (end_of_stop why) → answer ≢ status.Memory) → Began answer profile seed turns (record a { boards = p.boards }) (record (outside_of after q) { output = told })
+  began_stopped why answer told h ended room = record { why = Some why; traced = record { written = q.written; writes = q.faults }; ran = ran_some why h; ended = ended; room = room }
 
   pub linked_stopped : (why : Stop) → PartsHalted why profile.motes 0 profile.links (plan profile.motes turns) p q → why ≡ stop.Link → Rose a.link.failures q.failures
   linked_stopped why h is = subst (λ n. Rose n q.failures) o.failures (h.counts.sent is)

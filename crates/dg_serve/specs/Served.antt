@@ -1,6 +1,7 @@
 -- What a service did: the events that were applied, what it wrote, and how it left the boards, the link and the clock
 -- (docs/COMMANDS.md, "Serve").
 use Rattle.std.specs.Prelude.{◌≡◌, ◌≢◌, ◌⊎◌, ℕ, ◌≤◌, List, [], ◌++◌, slice_get, Option, Some, None, option_map, Result, Ok, Err}
+use Rattle.std.specs.Prelude.{IfErr}
 use Rattle.std.specs.Option.{MatchOption}
 use Rattle.std.specs.List.{AllByRecursion}
 use Rattle.dg_words.specs.Counts.{Rose}
@@ -19,6 +20,7 @@ use Rattle.dg_rules.specs.Events.{mote_of}
 use Rattle.dg_world.specs.Boards.{BoardsEndure}
 use Rattle.dg_world.specs.Counts.{NoneRose}
 use Rattle.dg_outside.specs.Outside.{Outside, OutputState, LinkState}
+use Rattle.dg_end.specs.Lines.{HasFixedLine}
 use Rattle.dg_end.specs.Writes.{WritesEnd}
 use Rattle.dg_end.specs.declared.ends.End.{End}
 use Rattle.dg_serve.specs.Services.{Part, Moment, PartsDone, Course, plan}
@@ -103,6 +105,8 @@ pub record Began (answer : Status) (profile : NetProfile) (seed turns : ℕ) (a 
   pub traced : OutputState
   pub ran : ServiceRan why profile seed turns a (record b { output = traced })
   pub ended : WritesEnd answer (service_end why) traced b.output
+  -- no memory is needed for a last line that has neither a number nor a cause in it
+  pub room : IfErr (service_end why) (λ end. HasFixedLine end → answer ≢ status.Memory)
 
 -- Why a service did not begin, where the head of its trace could not be written, or the link could not be opened. Memory may run
 -- out before the link is to be opened, or then.

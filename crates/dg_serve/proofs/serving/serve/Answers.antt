@@ -3,7 +3,7 @@ use Rattle.std.specs.Prelude.{Some, Ok, Err}
 use Rattle.std.proofs.lemmas.List.{length-map, with_items_is}
 use Rattle.dg_base.specs.declared.answers.Status.TheVariants as status
 use Rattle.dg_outside.specs.Outside.{Outside, output_of, link_state, outside}
-use Rattle.dg_end.specs.Lines.{last_line}
+use Rattle.dg_end.specs.Lines.{last_line, HasFixedLine}
 use Rattle.dg_end.specs.declared.ends.End.TheVariants as ends
 use Rattle.dg_serve.specs.Endings.{end_of_stop}
 use Rattle.dg_serve.specs.Networks.{DoneBy, with_boards_for}
@@ -100,7 +100,7 @@ returns-clause-served g c = λ before after.
     let back = with_items_is c.args.boards.now c.run.new.boards (sym (length-map c.run.new.boards g.N.Nor.device) ∙ parts_count (Err c.in-Err-run.stop) c.args.profile.now.motes c.args.profile.now.links (stretch 0 c.args.profile.now.motes (plan c.args.profile.now.motes c.args.turns)) p q goes ∙ length-map c.args.boards.now.items g.N.Nor.device ∙ sym c.args.boards.now.ok.0) in
     let told = output_of (g.K.Sink, c.fail-in-Err-run.new.out) in
     with_enough c.args.profile.now (length (map g.N.Nor.device c.args.boards.now.items)) c.fail-in-Err-run.result c.args.seed c.args.turns a _ (let n = length-map c.args.boards.now.items g.N.Nor.device in omega (arith, n, c.args.boards.now.ok.0, c.if-have-from.false, c.from.ensures))
-    (inr (subst (λ bs. Began c.fail-in-Err-run.result c.args.profile.now c.args.seed c.args.turns a (record (outside_of after q) { output = told; boards = map g.N.Nor.device bs })) (sym back) (began_stopped c.args.profile.now c.args.seed c.args.turns a after p q (c.in-Ok.ensures.opens before after (map g.N.Nor.device c.args.boards.now.items)) c.in-Err-run.stop c.fail-in-Err-run.result told goes (told_end c.fail-in-Err-run.result c.from-in-Err-run.result (end_of_stop c.in-Err-run.stop) (output_of (g.K.Sink, c.run.new.out)) (output_of (g.K.Sink, c.fail-in-Err-run.new.out)) c.from-in-Err-run.ensures c.fail-in-Err-run.ensures.ends))))
+    (inr (subst (λ bs. Began c.fail-in-Err-run.result c.args.profile.now c.args.seed c.args.turns a (record (outside_of after q) { output = told; boards = map g.N.Nor.device bs })) (sym back) (began_stopped c.args.profile.now c.args.seed c.args.turns a after p q (c.in-Ok.ensures.opens before after (map g.N.Nor.device c.args.boards.now.items)) c.in-Err-run.stop c.fail-in-Err-run.result told goes (told_end c.fail-in-Err-run.result c.from-in-Err-run.result (end_of_stop c.in-Err-run.stop) (output_of (g.K.Sink, c.run.new.out)) (output_of (g.K.Sink, c.fail-in-Err-run.new.out)) c.from-in-Err-run.ensures c.fail-in-Err-run.ensures.ends) (λ fixed. c.fail-in-Err-run.ensures.room (subst HasFixedLine (sym c.from-in-Err-run.ensures) fixed)))))
 
 pub returns-clause-link_fault : goal.returns-clause-link_fault
 returns-clause-link_fault g c = λ is.
