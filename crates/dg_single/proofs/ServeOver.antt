@@ -19,7 +19,7 @@ use Rattle.dg_seed.specs.Draws.{first_generator}
 use Rattle.dg_serve.specs.Services.{Begins, Moment}
 use Rattle.dg_serve.specs.inner.Stretches.{course}
 use Rattle.dg_outside.specs.Outside.{Outside, InputState, OutputState}
-use Rattle.dg_end.specs.Lines.{status_of, last_line}
+use Rattle.dg_end.specs.Lines.{status_of, last_line, HasFixedLine}
 use Rattle.dg_end.specs.Writes.{WritesLast}
 use Rattle.dg_serve.specs.Endings.{StoresOf, begins, end_of_stop}
 use Rattle.dg_serve.specs.inner.Stretches.{remains}
@@ -210,7 +210,7 @@ module _ (profile : NetProfile) (mote seed turns : ℕ) (a : Outside) (after : I
 
   -- all turns were played, unless it is late
   pub began_done : BeganAndGoes (Ok tt) (seat profile.motes mote profile.links) turns p q → MoteBegan status.Done profile mote seed turns (record a { boards = p.boards }) (outside_of after q)
-  began_done x = record { why = None; traced = record { written = q.written; writes = q.faults }; run = ran_all x; ended = (refl, refl) }
+  began_done x = record { why = None; traced = record { written = q.written; writes = q.faults }; run = ran_all x; ended = (refl, refl); room = tt }
 
   ran_stopped : (why : Stop) → RunGoes (Err why) (seat profile.motes mote profile.links) turns p q → MoteRun (Some why) profile mote seed turns (record a { boards = p.boards }) (outside_of after q)
   ran_stopped why (inl h) = ran_begin why h
@@ -218,8 +218,8 @@ module _ (profile : NetProfile) (mote seed turns : ℕ) (a : Outside) (after : I
 
   -- it stopped, and its last line was written
   pub began_stopped : (why : Stop) (answer : Status) (told : OutputState) → RunGoes (Err why) (seat profile.motes mote profile.links) turns p q → WritesLast answer (status_of (end_of_stop why)) (last_line (end_of_stop why)) (record { written = q.written; writes = q.faults }) told
-      → MoteBegan answer profile mote seed turns (record a { boards = p.boards }) (record (outside_of after q) { output = told })
-  began_stopped why answer told h ended = record { why = Some why; traced = record { written = q.written; writes = q.faults }; run = ran_stopped why h; ended = ended }
+      → (HasFixedLine (end_of_stop why) → answer ≢ status.Memory) → MoteBegan answer profile mote seed turns (record a { boards = p.boards }) (record (outside_of after q) { output = told })
+  began_stopped why answer told h ended room = record { why = Some why; traced = record { written = q.written; writes = q.faults }; run = ran_stopped why h; ended = ended; room = room }
 
 -- it did not begin, and no board was used
 pub not_begun_over : (why : Stop) (answer : Status) (profile : NetProfile) (mote : ℕ) (a b : Outside) (d : Device) (told : OutputState) → slice_get a.boards mote ≡ Some d → b.boards ≡ set a.boards mote d → Hindered (status_of (end_of_stop why)) profile a (record b { boards = a.boards }) × (b.clock ≡ a.clock)

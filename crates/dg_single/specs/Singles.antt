@@ -2,9 +2,11 @@
 -- and the clock. What is outside of it has a board for each mote, of which it has its own alone (docs/COMMANDS.md, "One mote a
 -- process").
 use Rattle.std.specs.Prelude.{◌≡◌, ◌≢◌, ◌⊎◌, ℕ, ◌<◌, ◌≤◌, Bool, List, [], ◌++◌, length, slice_get, Option, Some, None, option_map}
+use Rattle.std.specs.Prelude.{IfErr}
 use Rattle.std.specs.List.{AllByRecursion}
 use Rattle.dg_base.specs.Clock.{Answers, Answered}
 use Rattle.dg_base.specs.declared.answers.Status.{Status}
+use Rattle.dg_base.specs.declared.answers.Status.TheVariants as status
 use Rattle.dg_base.specs.declared.events.Event.{Event}
 use Rattle.dg_link.specs.Inboxes.{emptied}
 use Rattle.dg_netcfg.specs.declared.profile.NetProfile.{NetProfile}
@@ -14,6 +16,7 @@ use Rattle.dg_volume.specs.Store.{Store}
 use Rattle.dg_volume.specs.Stands.{IsVolume}
 use Rattle.dg_world.specs.Boards.{BoardsEndure}
 use Rattle.dg_outside.specs.Outside.{Outside, OutputState}
+use Rattle.dg_end.specs.Lines.{HasFixedLine}
 use Rattle.dg_end.specs.Writes.{WritesEnd}
 use Rattle.dg_rules.specs.Events.{mote_of}
 use Rattle.dg_serve.specs.Services.{Part, Moment, Course}
@@ -67,6 +70,8 @@ pub record MoteBegan (answer : Status) (profile : NetProfile) (mote seed turns :
   pub traced : OutputState
   pub run : MoteRun why profile mote seed turns a (record b { output = traced })
   pub ended : WritesEnd answer (service_end why) traced b.output
+  -- no memory is needed for a last line that has neither a number nor a cause in it
+  pub room : IfErr (service_end why) (λ end. HasFixedLine end → answer ≢ status.Memory)
 
 abbrev pub MoteServed : Status → NetProfile → (mote seed turns : ℕ) → (a b : Outside) → Type 0
 MoteServed answer profile mote seed turns a b =

@@ -1,7 +1,8 @@
-use Rattle.std.proofs.Common.{[], set, refl, inl, inr, arith}
+use Rattle.std.proofs.Common.{[], set, refl, inl, inr, arith, sym, subst}
 use Rattle.std.specs.Prelude.{Ok, Err}
 use Rattle.dg_base.specs.declared.answers.Status.TheVariants as status
 use Rattle.dg_outside.specs.Outside.{Outside, output_of, link_state, outside}
+use Rattle.dg_end.specs.Lines.{HasFixedLine}
 use Rattle.dg_serve.specs.Endings.{end_of_stop}
 use Rattle.dg_serve.specs.Standings.{Standing, service_standing}
 use Rattle.dg_serve.proofs.ServeLemmas.{unread, ready_opened, told_end}
@@ -45,7 +46,7 @@ returns-clause-served g c = λ before after boards owns.
     let a : Outside = outside before (output_of (g.K.Sink, c.args.out.now)) (link_state (g.L.Link, c.args.link.now)) (g.C.Clock.told c.args.clock.now) boards in
     let p : Standing = service_standing (c.in-Ok.service, boards) (g.K.Sink, c.open_service.new.out) (g.L.Link, c.open_service.new.link) (g.C.Clock, c.open_service.new.clock) in
     let q : Standing = service_standing (c.run.new.service, set boards c.args.mote (g.N.Nor.device c.run.new.board)) (g.K.Sink, c.run.new.out) (g.L.Link, c.run.new.link) (g.C.Clock, c.run.new.clock) in
-    inr (began_stopped c.args.profile.now c.args.mote c.args.seed c.args.turns a after p q (c.in-Ok.ensures.opens before after boards) c.requires.known c.in-Err-run.stop c.fail-in-Err-run.result (output_of (g.K.Sink, c.fail-in-Err-run.new.out)) (c.in-Err-run.ensures.goes boards owns) (told_end c.fail-in-Err-run.result c.from-in-Err-run.result (end_of_stop c.in-Err-run.stop) (output_of (g.K.Sink, c.run.new.out)) (output_of (g.K.Sink, c.fail-in-Err-run.new.out)) c.from-in-Err-run.ensures c.fail-in-Err-run.ensures.ends))
+    inr (began_stopped c.args.profile.now c.args.mote c.args.seed c.args.turns a after p q (c.in-Ok.ensures.opens before after boards) c.requires.known c.in-Err-run.stop c.fail-in-Err-run.result (output_of (g.K.Sink, c.fail-in-Err-run.new.out)) (c.in-Err-run.ensures.goes boards owns) (told_end c.fail-in-Err-run.result c.from-in-Err-run.result (end_of_stop c.in-Err-run.stop) (output_of (g.K.Sink, c.run.new.out)) (output_of (g.K.Sink, c.fail-in-Err-run.new.out)) c.from-in-Err-run.ensures c.fail-in-Err-run.ensures.ends) (λ fixed. c.fail-in-Err-run.ensures.room (subst HasFixedLine (sym c.from-in-Err-run.ensures) fixed)))
 
 pub returns-in-Ok-run-clause-writes : goal.returns-in-Ok-run-clause-writes
 returns-in-Ok-run-clause-writes g c = let rise = goes_rise (Ok tt) (seat c.args.profile.now.motes c.args.mote c.args.profile.now.links) c.args.turns _ _ (c.in-Ok-run.ensures.goes _ (owned c.args.profile.now.motes c.args.mote (g.N.Nor.device c.args.board.now) c.requires.known)) in
