@@ -2,7 +2,8 @@
 use Rattle.std.proofs.Common.{◌≡◌, ℕ, zero, suc, ◌<◌, ◌≤◌, ◌+◌, ◌∷◌, ◌++◌, [], List, map, min, length, take, get_or, refl, ap, sym, ◌∙◌, append_assoc, append-nil, arith, Result, Ok, Err, OnOk}
 use Rattle.std.proofs.lemmas.List.{take_all}
 use Rattle.std.specs.Prelude.{codes}
-use Rattle.dg_cost_text.specs.Table.{named_rows, share_rows, Begins}
+use Rattle.dg_meter.specs.declared.share.Share.{Share}
+use Rattle.dg_cost_text.specs.Table.{named_rows, share_rows, shared_rows}
 
 -- the key of two parts and an end
 pub two_parts : (a b c : List ℕ) → (a ++ (b ++ [])) ++ c ≡ a ++ (b ++ c)
@@ -48,16 +49,35 @@ named_all before after (x ∷ names) (y ∷ values) zero all = absurd (omega ari
 named_all before after (x ∷ names) (y ∷ values) (suc i) all =
     ap (λ (rows : List (List ℕ × ℕ)). (before ++ (x ++ after), y) ∷ rows) (named_all before after names values i (omega arith))
 
--- ---- tables that begin with others
+-- ---- one more name with a share
 
-pub begins_same : (rows : List (List ℕ × ℕ)) → Begins rows rows
-begins_same rows = record { more = []; is = sym (append-nil rows) }
+shared_suc : (before : List ℕ) (names : List (List ℕ)) (shares : List Share) (i : ℕ) (n : List ℕ) (s : Share) → i < length names → i < length shares
+    → n ≡ get_or names i n → s ≡ get_or shares i s → shared_rows before (take (suc i) names) (take (suc i) shares)
+    ≡ shared_rows before (take i names) (take i shares) ++ share_rows before n s.count s.bytes
+shared_suc before [] shares i n s a b is at = absurd (omega arith)
+shared_suc before (x ∷ names) [] i n s a b is at = absurd (omega arith)
+shared_suc before (x ∷ names) (y ∷ shares) zero n s a b is at =
+    ap (λ (t : List ℕ). share_rows before t y.count y.bytes) (sym is) ∙ ap (λ (z : Share). share_rows before n z.count z.bytes) (sym at)
+shared_suc before (x ∷ names) (y ∷ shares) (suc i) n s a b is at =
+    ap (λ (rows : List (List ℕ × ℕ)). share_rows before x y.count y.bytes ++ rows) (shared_suc before names shares i n s (omega arith) (omega arith) is at)
 
-pub begins_more : {a b c : List (List ℕ × ℕ)} → Begins a b → Begins b c → Begins a c
-begins_more {a} {b} {c} x y = record { more = x.more ++ y.more; is = y.is ∙ ap (λ (rows : List (List ℕ × ℕ)). rows ++ y.more) x.is ∙ append_assoc a x.more y.more }
+pub shared_more : (before : List ℕ) (names : List (List ℕ)) (shares : List Share) (i : ℕ) (n : List ℕ) (s : Share) → i < length names → i < length shares
+    → n ≡ get_or names i n → s ≡ get_or shares i s → shared_rows before (take (i + 1) names) (take (i + 1) shares)
+    ≡ shared_rows before (take i names) (take i shares) ++ share_rows before n s.count s.bytes
+shared_more before names shares i n s a b is at =
+    let next : i + 1 ≡ suc i = omega arith in
+    ap (λ (k : ℕ). shared_rows before (take k names) (take k shares)) next ∙ shared_suc before names shares i n s a b is at
 
-pub begins_rows : {a b : List (List ℕ × ℕ)} (rows : List (List ℕ × ℕ)) → b ≡ a ++ rows → Begins a b
-begins_rows rows is = record { more = rows; is = is }
+-- all names, or all shares
+pub shared_all : (before : List ℕ) (names : List (List ℕ)) (shares : List Share) (i : ℕ) → min (length names) (length shares) ≤ i
+    → shared_rows before (take i names) (take i shares) ≡ shared_rows before names shares
+shared_all before [] shares zero all = refl
+shared_all before [] shares (suc i) all = refl
+shared_all before (x ∷ names) [] zero all = refl
+shared_all before (x ∷ names) [] (suc i) all = refl
+shared_all before (x ∷ names) (y ∷ shares) zero all = absurd (omega arith)
+shared_all before (x ∷ names) (y ∷ shares) (suc i) all =
+    ap (λ (rows : List (List ℕ × ℕ)). share_rows before x y.count y.bytes ++ rows) (shared_all before names shares i (omega arith))
 
 -- two rows, whose keys have one beginning
 pub two_rows : {first new : List (List ℕ × ℕ)} (old : List (List ℕ × ℕ)) (key one other : List ℕ) (a b : ℕ) → first ≡ old ++ (key ++ one, a) ∷ []

@@ -1,7 +1,8 @@
 -- Rows as keys and values (docs/COMMANDS.md, "What a script costs").
-use Rattle.std.specs.Prelude.{◌≡◌, ℕ, List, [], ◌∷◌, ◌++◌, map, codes}
+use Rattle.std.specs.Prelude.{ℕ, List, [], ◌∷◌, ◌++◌, map, codes}
 use Rattle.std.specs.List.{flat_map}
 use Rattle.std.specs.Fmt.{decimal}
+use Rattle.dg_meter.specs.declared.share.Share.{Share}
 use Rattle.dg_cost_text.specs.declared.rows.Part.{Part}
 use Rattle.dg_cost_text.specs.declared.rows.Part.TheVariants as part
 use Rattle.dg_cost_text.specs.declared.rows.Row.{Row}
@@ -35,7 +36,9 @@ abbrev pub share_rows : (before name : List ℕ) → (count bytes : ℕ) → Lis
 share_rows before name count bytes =
     (before ++ (name ++ codes ".count"), count) ∷ (before ++ (name ++ codes ".bytes"), bytes) ∷ []
 
--- The table begins with these rows.
-pub record Begins (rows table : List (List ℕ × ℕ)) : Type 0 where
-  pub more : List (List ℕ × ℕ)
-  pub is : table ≡ rows ++ more
+-- the two rows of each of these names, with these shares
+abbrev pub shared_rows : (before : List ℕ) → (names : List (List ℕ)) → List Share → List (List ℕ × ℕ)
+shared_rows before [] shares = []
+shared_rows before (name ∷ names) [] = []
+shared_rows before (name ∷ names) (share ∷ shares) =
+    share_rows before name share.count share.bytes ++ shared_rows before names shares

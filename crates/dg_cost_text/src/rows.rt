@@ -1,7 +1,7 @@
 //! What was counted, as rows of a key and a value.
 ghost use Rattle.std.specs.Prelude.{◌≡◌, ◌∷◌, ◌++◌, [], map, min, length, OnOk, IfOk};
 ghost use Rattle.dg_cost_text.specs.Moments.{what_key, whole_key, rows_at};
-ghost use Rattle.dg_cost_text.specs.Table.{part_text, key_of, table_of_rows, named_rows, share_rows, Begins};
+ghost use Rattle.dg_cost_text.specs.Table.{part_text, key_of, table_of_rows, named_rows, share_rows, shared_rows};
 
 use crate::moment::{Moment, What};
 use dg_base::push_u32;
@@ -159,7 +159,8 @@ impl Rows {
         names: &[&str],
         shares: &[Share],
     ) -> Result<(), AllocError>
-        ensures { OnOk result (Begins (table_of_rows self.old) (table_of_rows self.new)) }
+        ensures { OnOk result (table_of_rows self.new ≡ table_of_rows self.old
+            ++ shared_rows before.now (map (λ n. n.now) names.now) shares.now) }
     {
         let count = names.len().min(shares.len());
         for index in 0..count {
