@@ -21,6 +21,7 @@ mod starting;
 mod stepping;
 mod telling;
 mod ticking;
+mod width;
 mod world;
 
 pub use alone::play_alone;
