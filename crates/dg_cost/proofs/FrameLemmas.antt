@@ -1,9 +1,13 @@
 -- The rows of frames of a counter are those of the run that it counted.
 use Rattle.std.proofs.Common.{◌≡◌, ℕ, ◌+◌, ◌*◌, ◌-◌, ◌%◌, ◌^◌, ◌<◌, ◌≤◌, Bool, true, false, cond, ◌==◌, List, [], ◌∷◌, ◌++◌, length, get_or, min, refl, sym, ap, subst, ◌∙◌, arith}
-use Rattle.std.specs.Prelude.{slice_index, codes}
+use Rattle.std.specs.Prelude.{slice_index, codes, map}
+use Rattle.std.specs.List.{range_with_len}
 use Rattle.std.proofs.Math.Nat.{min-eq_left, mul-le-mul}
 use Rattle.std.proofs.lemmas.Nat.{mod-mul-add}
+use Rattle.std.proofs.lemmas.List.FromFn.{fill_by_all}
 use Rattle.std.proofs.lemmas.List.Sums.{count_by-le-length}
+use Rattle.dg_meter.specs.Shares.{no_share}
+use Rattle.dg_meter.specs.declared.share.Share.{Share}
 use Rattle.dg_rules.specs.Sizes.{most_events}
 use Rattle.dg_rules.specs.World.{Sent}
 use Rattle.dg_rules.specs.Runs.{Played}
@@ -11,13 +15,15 @@ use Rattle.dg_events.specs.Told.{happening}
 use Rattle.dg_events.specs.Counts.{passes, at, count_at}
 use Rattle.dg_events.specs.Counters.{as_u64}
 use Rattle.dg_events.specs.Frames.{frame_size, frames_sent, is_sent, sent_at, sent_bytes_at, is_heard, bytes_at}
+use Rattle.dg_events.specs.FrameShares.{brought_share, capped_share, AreShares}
+use Rattle.dg_events.specs.RefusedFrames.{is_refused_frame}
 use Rattle.dg_events.specs.FrameCounters.{AreFrames, FramesAre}
 use Rattle.dg_events.specs.declared.sent_frame.SentFrame.{SentFrame}
 use Rattle.dg_events.specs.declared.frame_counter.FrameCounts.{FrameCounts}
 use Rattle.dg_cost_text.specs.Table.{share_rows}
 use Rattle.dg_cost.specs.EventRows.{HasRows}
 use Rattle.dg_cost.proofs.RowLemmas.{then_rows}
-use Rattle.dg_cost.specs.FrameRows.{rows_of_frames, bytes_of_kind, counted_rows, HasFrameCounts, sent_rows, heard_rows, HasFrameRows}
+use Rattle.dg_cost.specs.FrameRows.{rows_of_frames, bytes_of_kind, counted_rows, refused_shares, HasFrameCounts, sent_rows, heard_rows, refused_rows, HasFrameRows}
 
 below_end : (n w : ℕ) → n < w → n % w ≡ n
 below_end n w lt = let is : n ≡ 0 * w + n = omega arith in ap (λ (j : ℕ). j % w) is ∙ mod-mul-add 0 w n lt
@@ -89,6 +95,17 @@ exact_rows before counts n b few sized are = same_rows before (λ (k : ℕ). sli
     bytes : (k : ℕ) → k < 4 → bytes_of_kind k (slice_index counts k) ≡ b k
     bytes k lt = ap (bytes_of_kind k) (count k lt) ∙ exact_bytes k (n k) (few k) ∙ sym (sized k)
 
+abbrev pub of_both : (count bytes : ℕ) → Share
+of_both n b = record { count = n; bytes = b }
+
+-- so many refused frames, where there are few
+exact_share : (n b l : ℕ) → n ≤ most_events → b ≤ l * 62 → l ≤ most_events → capped_share (of_both n b) ≡ of_both n b
+exact_share n b l few small_bytes events =
+    let same : 62 ≤ 62 = omega arith in
+    let most : l * 62 ≤ most_events * 62 = mul-le-mul events same in
+    ap (λ (i : ℕ). of_both i (min b (2 ^ 64 - 1))) (min-eq_left {n = n} {m = 2 ^ 64 - 1} (omega (arith, few)))
+    ∙ ap (λ (i : ℕ). of_both n i) (min-eq_left {n = b} {m = 2 ^ 64 - 1} (omega (arith, small_bytes, most)))
+
 -- the rows of the frames of a mote
 pub mote_frames : (m : ℕ) (events : List Played) (log : List SentFrame) (motes : List FrameCounts) (c : FrameCounts) (table : List (List ℕ × ℕ))
     → length events ≤ most_events → AreFrames log motes events → FramesAre m events c → HasFrameCounts c table → HasFrameRows m events table
@@ -97,6 +114,8 @@ mote_frames m events log motes c table few are counts has = record {
       (exact_rows (codes "sent.") c.sent (λ (k : ℕ). sent_at m k events) (λ (k : ℕ). sent_bytes_at m k events) few_sent (λ k. are.sized.sent m k) counts.sent.each) has.sent;
   heard = subst (λ (rows : List (List ℕ × ℕ)). HasRows rows table)
       (exact_rows (codes "heard.") c.heard (λ (k : ℕ). count_at m (is_heard k) events) (λ (k : ℕ). bytes_at m (is_heard k) events) few_heard (λ k. are.sized.heard m k) counts.heard.each) has.heard;
+  refused = subst (λ (shares : List Share). HasRows (refused_shares shares) table)
+      (fill_by_all (λ (k : ℕ). brought_share m (is_refused_frame k) events) c.refused 5 no_share counts.refused.long refused_are) has.refused;
 }
   where
     few_sent : (k : ℕ) → sent_at m k events ≤ most_events
@@ -104,3 +123,12 @@ mote_frames m events log motes c table few are counts has = record {
 
     few_heard : (k : ℕ) → count_at m (is_heard k) events ≤ most_events
     few_heard k = omega (arith, count_by-le-length (λ (p : Played). passes (at m (is_heard k)) (happening p.item p.before)) events, few)
+
+    few_refused : (k : ℕ) → count_at m (is_refused_frame k) events ≤ most_events
+    few_refused k = omega (arith, count_by-le-length (λ (p : Played). passes (at m (is_refused_frame k)) (happening p.item p.before)) events, few)
+
+    refused_are : (k : ℕ) → k < 5 → get_or c.refused k no_share ≡ brought_share m (is_refused_frame k) events
+    refused_are k lt =
+        counts.refused.each k lt
+        ∙ exact_share (count_at m (is_refused_frame k) events) (bytes_at m (is_refused_frame k) events) (length events) (few_refused k)
+        (are.sized.refused m k) few

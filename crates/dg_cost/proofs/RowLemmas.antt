@@ -48,6 +48,14 @@ pub piece_last : {table : Entries} (before rows : Entries) → table ≡ before 
 piece_last {table} before rows is =
     record { before = before; after = []; is = is ∙ ap (λ (t : Entries). before ++ t) (sym (append-nil rows)) }
 
+-- in a part of another table
+pub piece_in : {part new rows : Entries} (old : Entries) → HasRows rows part → new ≡ old ++ part → HasRows rows new
+piece_in {part} {new} {rows} old h is = record {
+  before = old ++ h.before;
+  after = h.after;
+  is = is ∙ ap (λ (t : Entries). old ++ t) h.is ∙ sym (append_assoc old h.before (rows ++ h.after));
+}
+
 -- rows that are appended one after another
 pub then_rows : {mid new : Entries} (old rows more : Entries) → mid ≡ old ++ rows → new ≡ mid ++ more → new ≡ old ++ (rows ++ more)
 then_rows {mid} {new} old rows more first next =

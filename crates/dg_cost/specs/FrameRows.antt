@@ -1,10 +1,14 @@
 -- The rows of frames in the counts of a run (docs/COMMANDS.md, "What a script costs").
-use Rattle.std.specs.Prelude.{ℕ, ◌*◌, ◌-◌, ◌^◌, min, List, ◌++◌, codes, slice_index}
+use Rattle.std.specs.Prelude.{ℕ, ◌*◌, ◌-◌, ◌^◌, min, List, ◌++◌, codes, map, slice_index}
+use Rattle.std.specs.List.{range_with_len}
+use Rattle.dg_meter.specs.declared.share.Share.{Share}
 use Rattle.dg_rules.specs.Runs.{Played}
 use Rattle.dg_events.specs.Counts.{count_at}
 use Rattle.dg_events.specs.Frames.{frame_size, sent_at, sent_bytes_at, is_heard, bytes_at}
+use Rattle.dg_events.specs.FrameShares.{brought_share}
+use Rattle.dg_events.specs.RefusedFrames.{fault_names, is_refused_frame}
 use Rattle.dg_events.specs.declared.frame_counter.FrameCounts.{FrameCounts}
-use Rattle.dg_cost_text.specs.Table.{share_rows}
+use Rattle.dg_cost_text.specs.Table.{share_rows, shared_rows}
 use Rattle.dg_cost.specs.EventRows.{HasRows}
 
 -- the rows of all kinds, by the number of each
@@ -23,10 +27,15 @@ abbrev pub counted_rows : (before counts : List ℕ) → List (List ℕ × ℕ)
 counted_rows before counts =
     rows_of_frames before (λ (k : ℕ). slice_index counts k) (λ (k : ℕ). bytes_of_kind k (slice_index counts k))
 
+-- refused frames, by the number of their cause
+abbrev pub refused_shares : List Share → List (List ℕ × ℕ)
+refused_shares shares = shared_rows (codes "refused.frame.") fault_names shares
+
 -- The table of a mote has the rows of these counts.
 pub record HasFrameCounts (c : FrameCounts) (table : List (List ℕ × ℕ)) : Type 0 where
   pub sent : HasRows (counted_rows (codes "sent.") c.sent) table
   pub heard : HasRows (counted_rows (codes "heard.") c.heard) table
+  pub refused : HasRows (refused_shares c.refused) table
 
 -- ---- rows of a run
 
@@ -39,7 +48,13 @@ abbrev pub heard_rows : (mote : ℕ) → List Played → List (List ℕ × ℕ)
 heard_rows mote played =
     rows_of_frames (codes "heard.") (λ (k : ℕ). count_at mote (is_heard k) played) (λ (k : ℕ). bytes_at mote (is_heard k) played)
 
--- The table of a mote has the rows of the frames that it sent and heard in what was played.
+-- those of the heard ones that it refused, by cause, with their bytes
+abbrev pub refused_rows : (mote : ℕ) → List Played → List (List ℕ × ℕ)
+refused_rows mote played =
+    refused_shares (map (λ (k : ℕ). brought_share mote (is_refused_frame k) played) (range_with_len 0 5))
+
+-- The table of a mote has the rows of the frames that it sent, heard and refused in what was played.
 pub record HasFrameRows (mote : ℕ) (played : List Played) (table : List (List ℕ × ℕ)) : Type 0 where
   pub sent : HasRows (sent_rows mote played) table
   pub heard : HasRows (heard_rows mote played) table
+  pub refused : HasRows (refused_rows mote played) table

@@ -7,6 +7,7 @@
 
 mod call;
 mod flash_rows;
+mod frame_rows;
 mod moment_rows;
 mod mote_rows;
 

@@ -7,32 +7,18 @@ ghost use Rattle.dg_cost.specs.Counting.{IsCountOf};
 ghost use Rattle.dg_events.specs.Uptimes.{never_on};
 ghost use Rattle.dg_cost.specs.EventRows.{rows_of_events, rows_of_starts, rows_of_images, HasCounts, HasRows};
 ghost use Rattle.dg_events.specs.FrameCounters.{no_frames};
-ghost use Rattle.dg_cost.specs.FrameRows.{counted_rows, HasFrameCounts};
+ghost use Rattle.dg_cost.specs.FrameRows.{HasFrameCounts};
 ghost use Rattle.dg_cost.specs.TimeRows.{rows_of_power, rows_of_moment};
 
 use crate::flash_rows::{push_chip, with_flash};
+use crate::frame_rows::frame_rows;
 use crate::moment_rows::{push_all_moments, push_wholes};
 use dg_base::Status;
-use dg_cost_text::{Counted, Moment, Part, Rows, total_of};
-use dg_count::{
-    ANSWERS, Counter, EventPlace, FAULTS, FRAMES, MOTES, Moments, MoteCost, PACKET, PUT, SentBy,
-    TRACED, TRACED_PUT, USED, narrow, sent_by_each, share_of,
-};
-use dg_events::{CAUSES, EVENTS, EventCounts, FrameCounts, HEARD, SENT_KINDS, Uptime, Uptimes};
+use dg_cost_text::{Counted, Moment, Rows, total_of};
+use dg_count::{Counter, EventPlace, Moments, MoteCost, SentBy, narrow, sent_by_each, share_of};
+use dg_events::{CAUSES, EVENTS, EventCounts, FrameCounts, SENT_KINDS, Uptime, Uptimes};
 use dg_meter::Share;
 use std::alloc::{AllocError, Global};
-
-/// The rows of the neighbours that a mote heard.
-fn push_neighbours(rows: &mut Rows, cost: &MoteCost) -> Result<(), AllocError> {
-    for by in 0..MOTES {
-        let share = cost.heard_from(by);
-        let from = [Part::Text("from."), Part::Number(u32::from(narrow(by)))];
-        rows.push_ended(&from, ".count", share.count, false)?;
-        rows.push_ended(&from, ".bytes", share.bytes, false)?;
-        rows.push_ended(&from, ".first", cost.first[by], false)?;
-    }
-    Ok(())
-}
 
 /// 1 for a mote that is off.
 fn off_end(on: bool) -> u64
@@ -65,47 +51,6 @@ fn push_events(rows: &mut Rows, events: &EventCounts) -> Result<(), AllocError>
     Ok(())
 }
 
-/// So many frames of each kind, with their bytes.
-fn push_kinds(rows: &mut Rows, before: &str, counts: &[u64; SENT_KINDS]) -> Result<(), AllocError>
-    ensures { OnOk result (table_of_rows rows.new ≡ table_of_rows rows.old ++ counted_rows before.now counts.now) }
-{
-    rows.share(before, "advert", share_of(0, counts[0]))?;
-    rows.share(before, "request", share_of(1, counts[1]))?;
-    rows.share(before, "packet", share_of(2, counts[2]))?;
-    rows.share(before, "wide", share_of(3, counts[3]))?;
-    Ok(())
-}
-
-/// The rows of the frames that a mote sent and no mote heard.
-fn unheard_rows(alloc: Global, by: &SentBy) -> Result<Rows, AllocError> {
-    let mut rows = Rows::new(alloc);
-    for kind in 0..SENT_KINDS {
-        let parts = [Part::Text("unheard."), Part::Text(FRAMES[kind])];
-        rows.push_ended(&parts, ".count", by.without(kind, HEARD), true)?;
-    }
-    Ok(rows)
-}
-
-/// The frames that came to a mote from outside, and what it did with those that it heard.
-fn push_heard(rows: &mut Rows, cost: &MoteCost) -> Result<(), AllocError> {
-    rows.shares("outside.", &FRAMES, &cost.outside)?;
-    rows.shares("refused.frame.", &FAULTS, &cost.refused_frames)?;
-    rows.shares("refused.outside.", &FAULTS, &cost.refused_outside)?;
-    rows.each("answer.", &ANSWERS, &cost.answers, "")?;
-    push_neighbours(rows, cost)
-}
-
-/// The outcomes of the packets that a mote sent, and the frames that a trace brings.
-fn push_packets(rows: &mut Rows, cost: &MoteCost, by: &SentBy) -> Result<(), AllocError> {
-    let vain = share_of(PACKET, by.without(PACKET, PUT));
-    rows.share("packets.", "vain", vain)?;
-    rows.sum("packets.idle.count", by.without(PACKET, USED))?;
-    rows.sum("packets.put", cost.put)?;
-    rows.share("traced.", "heard", cost.traced)?;
-    rows.sum("traced.unheard.count", by.all_without(HEARD + TRACED))?;
-    rows.sum("traced.vain.count", by.without(PACKET, PUT + TRACED_PUT))
-}
-
 /// The starts of a mote, by what caused them.
 #[tactic(auto, using(std::proofs::lemmas::List::append_assoc))]
 fn push_starts(rows: &mut Rows, events: &EventCounts) -> Result<(), AllocError>
@@ -125,14 +70,6 @@ fn push_images(rows: &mut Rows, events: &EventCounts) -> Result<(), AllocError>
     let images = ["0", "1", "2", "3", "4", "5", "6"];
     rows.each("starts.image.", &images, &events.of_image, "")?;
     Ok(())
-}
-
-/// The rows between those of heard frames and those of starts.
-fn frame_rows(alloc: Global, cost: &MoteCost, by: &SentBy) -> Result<Rows, AllocError> {
-    let mut rows = Rows::new(alloc);
-    push_heard(&mut rows, cost)?;
-    push_packets(&mut rows, cost, by)?;
-    Ok(rows)
 }
 
 /// The rows of starts that did not run an image.
@@ -176,10 +113,7 @@ fn mote_rows(
     let mut rows = Rows::new(alloc);
     push_power(&mut rows, uptime, ms)?;
     push_events(&mut rows, events)?;
-    push_kinds(&mut rows, "sent.", &frames.sent)?;
-    rows.append(unheard_rows(alloc, by)?)?;
-    push_kinds(&mut rows, "heard.", &frames.heard)?;
-    rows.append(frame_rows(alloc, cost, by)?)?;
+    rows.append(frame_rows(alloc, cost, by, frames)?)?;
     push_starts(&mut rows, events)?;
     rows.append(failed_rows(alloc, cost)?)?;
     push_images(&mut rows, events)?;

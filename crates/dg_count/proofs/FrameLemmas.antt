@@ -25,11 +25,11 @@ use Rattle.dg_replay.specs.Shown.{events_played, LeadTo, IsApplied}
 use Rattle.dg_world.specs.Deployments.{Deployment}
 use Rattle.dg_world.specs.declared.world.World.{World as CodeWorld}
 use Rattle.dg_events.specs.Frames.{frame_number, frame_size, sent_from, frames_sent, is_hearing}
-use Rattle.dg_events.specs.FrameCounters.{AreFrames, IsFrameless, IsSending, IsBringing}
+use Rattle.dg_events.specs.FrameCounters.{AreFrames, IsFrameless, IsSending}
 use Rattle.dg_events.specs.Noted.{IsEventPlayed}
 use Rattle.dg_events.specs.declared.sent_frame.SentFrame.{SentFrame}
 use Rattle.dg_events.specs.declared.frame_counter.FrameCounts.{FrameCounts}
-use Rattle.dg_count.specs.Shown.{IsShown, IsNumberOf}
+use Rattle.dg_count.specs.Shown.{IsShown}
 
 -- ---- an event that brings a frame sends none
 
@@ -94,7 +94,7 @@ step_still (Goes d) w x v all none step = by (blows x.cut d.trail) step
     by true e = ap (λ (u : World). u.sent) e.world
     by false e = ap (λ (u : World). u.sent) (e.2 ∙ ap (and_sent _ (mote_of x.event)) none)
 
-played_step : {e : Event} {lines : List Report} {p : Played} (h : IsEventPlayed e lines p)
+pub played_step : {e : Event} {lines : List Report} {p : Played} (h : IsEventPlayed e lines p)
     → (all : List Report) × StepDoes (does p.before e) p.before (record { event = e; cut = h.cut }) p.after all
 unfolding WorldStep
 played_step {e} {lines} {p} h = (step.0, step.1)
@@ -105,7 +105,7 @@ played_step {e} {lines} {p} h = (step.0, step.1)
 played_sends : {e : Event} {lines : List Report} {p : Played} → IsEventPlayed e lines p → SendsOne p.before.sent p.after.sent (mote_of e)
 played_sends {e} {lines} {p} h = let s = played_step h in step_sends (does p.before e) p.before (record { event = e; cut = h.cut }) p.after s.0 s.1
 
-played_still : {e : Event} {lines : List Report} {p : Played} → IsEventPlayed e lines p → is_hearing e ≡ true → p.after.sent ≡ p.before.sent
+pub played_still : {e : Event} {lines : List Report} {p : Played} → IsEventPlayed e lines p → is_hearing e ≡ true → p.after.sent ≡ p.before.sent
 played_still {e} {lines} {p} h hears =
     let s = played_step h in
     step_still (does p.before e) p.before (record { event = e; cut = h.cut }) p.after s.0 (does_silent p.before e hears) s.1
@@ -218,7 +218,7 @@ not_sent {e = e} {past = past} {p = p} all all_is more told are h =
     none_some (frame_of one.0) (told ∙ ap (option_map (λ (s : Sent). s.bytes)) (frame_behind p.after (frames_sent past) (record { by = mote_of e; bytes = frame_of one.0 }) all one.1 all_is))
 
 -- what an event brings depends on the frames alone
-same_brought : (w v : World) (e : Event) → w.sent ≡ v.sent → is_hearing e ≡ true → brought w e ≡ brought v e
+pub same_brought : (w v : World) (e : Event) → w.sent ≡ v.sent → is_hearing e ≡ true → brought w e ≡ brought v e
 same_brought w v (Hear m dt word frame) same h = ap (λ (fs : List Sent). option_map (λ (s : Sent). s.bytes) (frame_at (record w { sent = fs }) frame)) same
 same_brought w v (Last from to dt word) same h = ap (λ (fs : List Sent). option_map (λ (s : Sent). s.bytes) (last_by from fs None)) same
 same_brought w v (Tick m dt word) same h = refl
@@ -226,17 +226,3 @@ same_brought w v (Reset m dt word) same h = refl
 same_brought w v (Inject m image version dt word) same h = refl
 same_brought w v (OrderEvent m number image version dt word) same h = refl
 same_brought w v (Frame m dt word bytes) same h = refl
-
--- the frame that an event brings
-pub one_brought : {world : CodeWorld} {e : Event} {lines : List Report} {past : List Played} {p : Played} (number : ℕ) → is_hearing e ≡ true
-    → IsNumberOf world e number → IsShown world e lines past p → IsBringing e lines number past p
-one_brought {e = e} {past = past} {p = p} number hears is h =
-    let still : p.after.sent ≡ p.before.sent = played_still h.played hears in
-    record {
-      played = h.played;
-      hears = hears;
-      brings = same_brought p.before p.after e (sym still) hears ∙ is h.boards p.after h.stands
-          ∙ ap (λ (fs : List Sent). option_map (λ (s : Sent). s.bytes) (frame_at (record p.after { sent = fs }) number)) still;
-      before = h.before;
-      sent = still ∙ h.before;
-    }

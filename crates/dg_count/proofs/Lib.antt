@@ -1,3 +1,4 @@
 mod FrameLemmas
+mod FaultLemmas
 mod KindLemmas
 mod RunLemmas

@@ -1,11 +1,16 @@
 //! Counts the frames of motes, by what the world exposes of them.
-ghost use Rattle.std.specs.Prelude.{◌≡◌, true, false};
+ghost use Rattle.std.specs.Prelude.{◌≡◌, true, false, List, option_map};
+ghost use Rattle.dg_nor.specs.Device.{Device};
 ghost use Rattle.dg_rules.specs.Events.{mote_of};
+ghost use Rattle.dg_rules.specs.World.{World as RuleWorld, wide_at, frame_at};
+ghost use Rattle.dg_world.specs.Worlds.{IsWorld};
 ghost use Rattle.dg_events.specs.Frames.{is_hearing};
+ghost use Rattle.dg_events.specs.RefusedFrames.{fault_brought};
 ghost use Rattle.dg_count.specs.Shown.{CountsFrames, IsNumberOf};
 
 use crate::kinds::kind_of;
 use dg_events::{FrameCounter, HeardFrame};
+use dg_frame::{FrameFault, refusal};
 use dg_rules::Event;
 use dg_script::Report;
 use dg_world::World;
@@ -34,6 +39,18 @@ pub fn count_sent(
     }
 }
 
+/// Why a mote refuses the frame with this number, None if it reads the frame, or there is none.
+#[inline(always)]
+fn fault_of(world: &World, mote: u8, number: usize) -> Option<FrameFault>
+    ensures { (boards : List Device) (w : RuleWorld) → IsWorld world.now boards w
+        → fault_brought (wide_at w mote) (option_map (λ s. s.bytes) (frame_at w number)) ≡ result }
+{
+    match world.frame(number) {
+        Some(message) => refusal(message, world.is_wide(mote)),
+        None => None,
+    }
+}
+
 /// Counts the frame with this number, which an event brings to a mote, unless the event is refused.
 #[inline(always)]
 pub fn count_heard(
@@ -49,5 +66,5 @@ pub fn count_heard(
     requires number { IsNumberOf world.now event.now number }
     ensures { CountsFrames frames.old frames.new world.now event.now reports.now }
 {
-    frames.hear(event, mote, number, reports)
+    frames.hear(event, mote, number, fault_of(world, mote, number), reports)
 }

@@ -2,9 +2,8 @@
 ghost use Rattle.std.specs.Prelude.{◌≡◌, ◌*◌, ◌-◌, ◌^◌, min};
 ghost use Rattle.dg_events.specs.Frames.{frame_size};
 
-use crate::kinds::frame_bytes;
 use crate::share::narrow;
-use dg_events::{FrameCounter, SENT_KINDS, SentFrame, bit};
+use dg_events::{FrameCounter, SENT_KINDS, SentFrame, bit, frame_bytes};
 use dg_frame::write;
 use dg_meter::Share;
 use dg_world::World;

@@ -3,29 +3,16 @@ ghost use Rattle.dg_events.specs.FrameCounters.{KeepsFrames};
 
 use crate::costs::Costs;
 use crate::frames::{PUT, TRACED, TRACED_PUT, USED};
-use crate::kinds::{CUT_ANSWER, REFUSED_ANSWER, answer_kind, bytes_kind, fault_kind, frame_bytes};
+use crate::kinds::{CUT_ANSWER, answer_kind, bytes_kind};
 use crate::mote::{FILL, MOTES, MoteCost};
-use crate::share::add_share;
 use crate::work::Work;
-use dg_events::{FrameCounter, HeardFrame, SENT_KINDS, Told, add_one, bit};
+use dg_events::{FrameCounter, HeardFrame, SENT_KINDS, Told, add_one, add_share, bit, fault_kind};
 use dg_mote::Heard;
 use dg_rules::Event;
 use dg_world::World;
 use std::alloc::AllocError;
 
 impl MoteCost {
-    /// Counts a frame of this kind if the mote refused it.
-    #[inline(never)]
-    fn refused(&mut self, kind: usize, heard: Heard) {
-        if let Heard::Refused(fault) = heard {
-            add_share(
-                &mut self.refused_frames,
-                fault_kind(fault),
-                frame_bytes(kind),
-            );
-        }
-    }
-
     /// A packet of the frame with this number, 0 if it came from outside, was put into the page that is being filled.
     fn fill_with(&mut self, number: usize) {
         self.put = self.put.saturating_add(1);
@@ -85,18 +72,12 @@ impl Costs {
         }
     }
 
-    /// A mote answered a frame of this kind.
+    /// A mote answered a frame.
     #[inline(always)]
-    pub fn answered(&mut self, mote: u8, kind: usize, heard: Heard) {
+    pub fn answered(&mut self, mote: u8, heard: Heard) {
         let index = usize::from(mote);
-        if self.motes.len() <= index {
-            return;
-        }
-        let cost = &mut self.motes[index];
-        let answer = answer_kind(heard);
-        add_one(&mut cost.answers, answer);
-        if answer == REFUSED_ANSWER {
-            cost.refused(kind, heard);
+        if index < self.motes.len() {
+            add_one(&mut self.motes[index].answers, answer_kind(heard));
         }
     }
 
@@ -145,7 +126,7 @@ impl Costs {
     #[inline(always)]
     pub fn note_frame(&mut self, mote: u8, heard: HeardFrame, answer: Heard) {
         self.heard_frame(mote, heard);
-        self.answered(mote, usize::from(heard.kind), answer);
+        self.answered(mote, answer);
     }
 
     /// Counts the packet of this frame if it was put into a page, and the page if it became complete.

@@ -1,11 +1,11 @@
-//! The kinds of frames, faults and answers, with their names in keys.
+//! The kinds of frames and answers, with their names in keys.
 ghost use Rattle.std.specs.Prelude.{◌≡◌, ◌<◌, true, length};
 ghost use Rattle.dg_frame.specs.Grammar.{in_range};
 ghost use Rattle.dg_frame.specs.Spelling.{frame_of};
 ghost use Rattle.dg_events.specs.Frames.{frame_number, frame_size};
 
 use dg_events::SENT_KINDS;
-use dg_frame::{FrameFault, Message, is_read_back};
+use dg_frame::{Message, is_read_back};
 use dg_mote::Heard;
 
 /// The kinds of frames, and bytes that are none of them.
@@ -13,19 +13,6 @@ pub const FRAMES: [&str; 5] = ["advert", "request", "packet", "wide", "else"];
 
 /// The number of packets among the kinds of frames.
 pub const PACKET: usize = 2;
-
-/// The bytes of a frame of this kind.
-#[inline(always)]
-pub fn frame_bytes(kind: usize) -> usize
-    ensures { result ≡ frame_size kind }
-{
-    match kind {
-        0 => 38,
-        1 => 19,
-        2 => 35,
-        _ => 62,
-    }
-}
 
 /// The number of a message's kind.
 #[inline(always)]
@@ -55,26 +42,10 @@ pub fn bytes_kind(bytes: &[u8]) -> usize {
     }
 }
 
-pub const FAULTS: [&str; 5] = ["short", "kind", "length", "check", "range"];
-
-/// The number of a frame's fault.
-pub fn fault_kind(fault: FrameFault) -> usize {
-    match fault {
-        FrameFault::Short => 0,
-        FrameFault::Kind => 1,
-        FrameFault::Length => 2,
-        FrameFault::Check => 3,
-        FrameFault::Range => 4,
-    }
-}
-
 pub const ANSWERS: [&str; 12] = [
     "refused", "dropped", "noted", "same", "other", "asks", "serves", "merged", "took", "sealed",
     "bad", "cut",
 ];
-
-/// The number of the answer that refuses a frame.
-pub const REFUSED_ANSWER: usize = 0;
 
 /// The number of the answer to a frame in which the power was cut.
 pub const CUT_ANSWER: usize = 11;

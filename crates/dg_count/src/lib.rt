@@ -22,7 +22,7 @@ pub use call::replay_counted;
 pub use costs::{Costs, Given};
 pub use counter::Counter;
 pub use frames::{FrameIndex, PUT, SentBy, TRACED, TRACED_PUT, USED, sent_by_each, share_of};
-pub use kinds::{ANSWERS, FAULTS, FRAMES, PACKET};
+pub use kinds::{ANSWERS, FRAMES, PACKET};
 pub use moments::{Have, Moments, Whole};
 pub use mote::{MOTES, MoteCost};
 pub use place::EventPlace;

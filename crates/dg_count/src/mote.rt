@@ -18,7 +18,6 @@ pub struct MoteCost {
     /// How many short starts are counted.
     pub gesture: u8,
     pub outside: [Share; 5],
-    pub refused_frames: [Share; 5],
     pub refused_outside: [Share; 5],
     pub answers: [u64; 12],
     /// The frames that it heard, by the mote that sent them, and by kind.
@@ -61,7 +60,6 @@ impl MoteCost {
             started: 0,
             gesture: 0,
             outside: [Share::none(); 5],
-            refused_frames: [Share::none(); 5],
             refused_outside: [Share::none(); 5],
             answers: [0; 12],
             from: [[0; SENT_KINDS]; MOTES],

@@ -1,14 +1,4 @@
-//! Counts and bytes by the number of a kind.
-
-use dg_meter::Share;
-
-/// Counts one more of the kind with this number, of this many bytes.
-#[inline(always)]
-pub fn add_share(shares: &mut [Share], kind: usize, bytes: usize) {
-    if kind < shares.len() {
-        shares[kind] = shares[kind].and(bytes);
-    }
-}
+//! Counts by the number of a kind.
 
 /// Counts `more` of the kind with this number.
 #[inline(always)]

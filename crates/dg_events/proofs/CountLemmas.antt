@@ -6,15 +6,13 @@ use Rattle.std.proofs.lemmas.Nat.{div-add-mod', mod-mul-add, mod_below}
 use Rattle.std.proofs.lemmas.Bool.{eq-eqb, ne_eqb, cases_eq}
 use Rattle.std.proofs.lemmas.List.{length-set, get_or-set_same, get_or-set_other, get_or_default}
 use Rattle.std.proofs.lemmas.List.Sums.{sum_by_push}
-use Rattle.dg_rules.specs.World.{World}
 use Rattle.dg_rules.specs.Events.{mote_of}
 use Rattle.dg_rules.specs.Runs.{Played}
 use Rattle.dg_base.specs.declared.events.Event.{Event}
-use Rattle.dg_script.specs.Items.{Item}
 use Rattle.dg_script.specs.declared.report.Cause.{Cause}
 use Rattle.dg_events.specs.Kinds.{event_number, cause_number}
 use Rattle.dg_events.specs.Told.{Happened, happening}
-use Rattle.dg_events.specs.Counts.{passes, at, count_at, count_all, has_kind, is_cause, is_refused, is_cut, is_reset, is_tick, has_started, is_start_by_power, is_start_by_order, is_cut_start_by_power, is_image, is_start_of}
+use Rattle.dg_events.specs.Counts.{passes, at, count_at, count_all, has_kind, is_cause, is_refused, is_cut, is_start_by_power, is_start_by_order, is_cut_start_by_power, is_image, is_start_of}
 use Rattle.dg_events.specs.Counters.{as_u64, told_count, AreCounts, CountsAre, AllCounted}
 use Rattle.dg_events.specs.Noted.{up, up_if, up_at, up_for, up_by_cause, with_event, IsOutcome}
 use Rattle.dg_events.specs.declared.told.Told.{Told}

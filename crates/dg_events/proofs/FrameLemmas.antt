@@ -1,13 +1,14 @@
 -- The frames that were sent and brought, one more of them, and the log.
 use Rattle.std.proofs.Common.{◌≡◌, ◌≢◌, ◌⊎◌, inl, inr, ℕ, ◌+◌, ◌*◌, ◌^◌, ◌<◌, ◌≤◌, zero, suc, Bool, true, false, cond, ◌==◌, ◌&&◌, List, [], ◌∷◌, ◌++◌, length, replicate, get_or, set, refl, sym, ap, subst, ◌∙◌, arith}
 use Rattle.std.proofs.Common.{Option, Some, None}
-use Rattle.std.specs.Prelude.{slice_get, slice_index, is_some, not, count_by, map, option_map, ◌-◌}
+use Rattle.std.specs.Prelude.{slice_get, slice_index, slice_index_or, is_some, not, count_by, map, option_map, ◌-◌}
 use Rattle.std.specs.List.{sum_by}
 use Rattle.std.proofs.lemmas.Bool.{eq-eqb, ne_eqb, cases_eq, le-leb}
 use Rattle.std.proofs.lemmas.List.{length-set, get_or-set_same, get_or-set_other}
 use Rattle.std.proofs.lemmas.List.Sums.{sum_by_push}
 use Rattle.dg_base.specs.declared.events.Event.{Event}
-use Rattle.dg_rules.specs.World.{World, Sent, frame_at}
+use Rattle.dg_meter.specs.Shares.{no_share}
+use Rattle.dg_rules.specs.World.{World, Sent, frame_at, wide_at}
 use Rattle.dg_rules.specs.Events.{mote_of}
 use Rattle.dg_rules.specs.Past.{brought}
 use Rattle.dg_rules.specs.Runs.{Played}
@@ -32,7 +33,7 @@ same_some x y e = cc
 
 -- ---- truth values
 
-and_false : (a : Bool) → (a && false) ≡ false
+pub and_false : (a : Bool) → (a && false) ≡ false
 and_false true = refl
 and_false false = refl
 
@@ -111,10 +112,16 @@ zeros zero k = refl
 zeros (suc n) zero = refl
 zeros (suc n) (suc k) = zeros n k
 
+no_shares : (n k : ℕ) → slice_index_or (replicate n no_share) k no_share ≡ no_share
+no_shares zero k = refl
+no_shares (suc n) zero = refl
+no_shares (suc n) (suc k) = no_shares n k
+
 no_frames_are : (m : ℕ) → FramesAre m [] no_frames
 no_frames_are m = record {
   sent = record { long = refl; each = λ k lt. zeros 4 k };
   heard = record { long = refl; each = λ k lt. zeros 4 k };
+  refused = record { long = refl; each = λ k lt. no_shares 5 k };
 }
 
 no_bytes : (n : ℕ) → 0 ≡ 0 * n
@@ -127,7 +134,7 @@ nothing_framed log r none is = record {
   sizes = λ n s there. absurd (none_some s there);
   many = refl;
   each = none_framed 16 r (λ m. subst (λ (x : FrameCounts). FramesAre m [] x) (sym is) (no_frames_are m));
-  sized = record { sent = λ m k. no_bytes (frame_size k); heard = λ m k. no_bytes (frame_size k) };
+  sized = record { sent = λ m k. no_bytes (frame_size k); heard = λ m k. no_bytes (frame_size k); refused = λ m k. omega arith };
 }
 
 -- ---- the frames that were sent
@@ -240,6 +247,10 @@ pub brought_in : {e : Event} {lines : List Report} {p : Played} (h : IsEventPlay
 unfolding happened_in
 brought_in h = refl
 
+pub wide_in : {e : Event} {lines : List Report} {p : Played} (h : IsEventPlayed e lines p) → (happened_in h).wide ≡ wide_at p.before (mote_of e)
+unfolding happened_in
+wide_in h = refl
+
 pub told_in : {e : Event} {lines : List Report} {p : Played} (h : IsEventPlayed e lines p) → (happened_in h).told ≡ told_by lines
 told_in {e} {lines} {p} h =
     let o = came_to e lines p h in
@@ -266,7 +277,7 @@ heard_kind x bytes kind k hears taken brings is =
 pub at_false : (m : ℕ) (x : Happened) → ((k : ℕ) → is_heard k x ≡ false) → (k : ℕ) → at m (is_heard k) x ≡ false
 at_false m x none k = ap (λ (b : Bool). (mote_of x.event == m) && b) (none k) ∙ and_false (mote_of x.event == m)
 
-bytes_more : (m : ℕ) (test : Happened → Bool) (past : List Played) (x : Happened) (p : Played) → Is x p
+pub bytes_more : (m : ℕ) (test : Happened → Bool) (past : List Played) (x : Happened) (p : Played) → Is x p
     → bytes_at m test (past ++ p ∷ []) ≡ bytes_at m test past + cond (at m test x) (bytes_brought x.brought) 0
 bytes_more m test past x p is =
     sum_by_push (λ (q : Played). bytes_if (at m test) (happening q.item q.before)) past p

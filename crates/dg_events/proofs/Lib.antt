@@ -1,5 +1,6 @@
 mod CountLemmas
 mod FrameLemmas
+mod ShareLemmas
 mod FrameEvents
 mod ToldLemmas
 mod PowerLemmas

@@ -1,5 +1,5 @@
 -- Whether motes are on after an event, by its outcome.
-use Rattle.std.proofs.Common.{◌≡◌, ◌≢◌, ◌⊎◌, inl, inr, ℕ, zero, suc, ◌+◌, ◌==◌, ◌<◌, ◌≤◌, Bool, true, false, cond, List, [], ◌∷◌, length, get_or, set, refl, sym, ap, ◌∙◌, arith}
+use Rattle.std.proofs.Common.{◌≡◌, ◌≢◌, ◌⊎◌, inl, inr, ℕ, zero, suc, ◌+◌, ◌==◌, ◌<◌, ◌≤◌, Bool, true, false, cond, List, [], ◌∷◌, length, get_or, set, refl, ap, ◌∙◌, arith}
 use Rattle.std.proofs.Common.{Option, Some, None, option_map}
 use Rattle.std.specs.Prelude.{is_some, ◌||◌}
 use Rattle.std.proofs.lemmas.List.{get_or-set_same, get_or-set_other}
@@ -22,12 +22,11 @@ use Rattle.dg_base.specs.declared.events.Event.{Event}
 use Rattle.dg_base.specs.declared.events.Event.TheVariants.{Tick, Hear, Last, Reset, Inject, Order as OrderEvent, Frame}
 use Rattle.dg_base.specs.declared.events.Step.{Step}
 use Rattle.dg_rules.specs.World.{World, Running, Site, Sent, no_site, site, store_at, wide_at, linked, frame_at, last_frame, with_site, counted}
-use Rattle.dg_rules.specs.Events.{Does, Refuses, Goes, EventEffect, runs_by, of_effect, tick_does, hear_by, heard_sent, heard_last, unless_off, reloaded, acts}
+use Rattle.dg_rules.specs.Events.{Does, Refuses, Goes, runs_by, of_effect, tick_does, hear_by, heard_sent, heard_last, unless_off, reloaded, acts}
 use Rattle.dg_rules.specs.Events.{inject_unless, inject_row, order_unless, knows, injects, orders, does, mote_of, dt_of}
 use Rattle.dg_rules.specs.Steps.{WorldStep, StepDoes, Ended, blows, and_sent}
-use Rattle.dg_rules.specs.Runs.{Played, ItemStep}
-use Rattle.dg_rules.specs.Past.{started_unless}
-use Rattle.dg_script.specs.Items.{Item, Applies}
+use Rattle.dg_rules.specs.Runs.{ItemStep}
+use Rattle.dg_script.specs.Items.{Applies}
 use Rattle.dg_script.specs.declared.report.Cause.TheVariants as cause
 use Rattle.dg_script.specs.declared.report.Report.{Report}
 use Rattle.dg_events.specs.Told.{came_by, came_of, happened}

@@ -1,5 +1,5 @@
 -- The outcome that the report of a step gives is its outcome by the rules.
-use Rattle.std.proofs.Common.{◌≡◌, ℕ, Bool, true, false, cond, List, length, subst, [], ◌∷◌, ◌++◌, refl, sym, ap, ◌∙◌, fold, filter, Option, Some, None, option_map}
+use Rattle.std.proofs.Common.{◌≡◌, ℕ, Bool, true, false, cond, List, length, subst, [], ◌∷◌, ◌++◌, refl, sym, ap, ◌∙◌, fold, filter, Option, Some, None}
 use Rattle.std.specs.List.{AllByRecursion, filter_map, cons_option, range_with_len}
 use Rattle.std.proofs.lemmas.List.Sums.{fold-append}
 use Rattle.std.proofs.lemmas.List.Elements.{filter-append}
@@ -12,17 +12,16 @@ use Rattle.dg_mote.specs.Summary.{same_order}
 use Rattle.dg_slot.specs.Kept.{Held}
 use Rattle.dg_rules.specs.World.{World, store_at}
 use Rattle.dg_rules.specs.Changes.{changes, order_change, same_held, have_change, start_line, sent_line, is_reported}
-use Rattle.dg_rules.specs.Events.{Does, Refuses, Goes, EventEffect, does, mote_of}
+use Rattle.dg_rules.specs.Events.{Does, Refuses, Goes, does, mote_of}
 use Rattle.dg_rules.specs.Steps.{WorldStep, StepDoes, Ended, blows}
 use Rattle.dg_rules.specs.Runs.{Played, ItemStep}
-use Rattle.dg_rules.specs.Past.{started_unless}
 use Rattle.dg_frame.specs.declared.Message.{Message}
 use Rattle.dg_frame.specs.declared.Message.TheVariants.{Advert, Request, Packet, Wide}
 use Rattle.dg_base.specs.declared.events.Event.{Event}
 use Rattle.dg_base.specs.declared.events.Step.{Step}
 use Rattle.dg_script.specs.Items.{Item, Applies}
 use Rattle.dg_script.specs.declared.report.Report.{Report}
-use Rattle.dg_script.specs.declared.report.Report.TheVariants.{Off, Refused, Have, Order as OrderLine}
+use Rattle.dg_script.specs.declared.report.Report.TheVariants.{Off, Have, Order as OrderLine}
 use Rattle.dg_events.specs.Noted.{IsEventPlayed, IsOutcome}
 use Rattle.dg_events.specs.Told.{came_by, came_of, happened, happening, nothing_told, and_line, told_by}
 use Rattle.dg_events.specs.declared.told.Told.{Told}

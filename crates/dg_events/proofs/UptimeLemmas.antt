@@ -1,23 +1,22 @@
 -- One more event in the times of what was played.
-use Rattle.std.proofs.Common.{◌≡◌, ◌≢◌, ◌⊎◌, inl, inr, ℕ, zero, suc, ◌+◌, ◌-◌, ◌*◌, ◌^◌, ◌%◌, ◌<◌, ◌≤◌, Bool, true, false, cond, min, List, [], ◌∷◌, ◌++◌, length, length-append, replicate, get_or, set, refl, sym, ap, subst, ◌∙◌, arith}
-use Rattle.std.proofs.Common.{Option, Some, None}
-use Rattle.std.specs.Prelude.{slice_get, nat_lt, is_some}
+use Rattle.std.proofs.Common.{◌≡◌, ◌≢◌, ◌⊎◌, inl, inr, ℕ, zero, suc, ◌+◌, ◌-◌, ◌^◌, ◌%◌, ◌<◌, ◌≤◌, Bool, true, false, cond, min, List, [], ◌∷◌, ◌++◌, length, length-append, replicate, get_or, set, refl, sym, ap, subst, ◌∙◌, arith}
+use Rattle.std.proofs.Common.{Some, None}
+use Rattle.std.specs.Prelude.{slice_get, nat_lt}
 use Rattle.std.proofs.lemmas.Nat.{mod-mul-add}
 use Rattle.std.proofs.lemmas.Bool.{cases_eq, ltb-true, ltb-false}
 use Rattle.std.proofs.lemmas.List.{length-set}
 use Rattle.std.proofs.lemmas.List.Sums.{sum_by_push}
 use Rattle.dg_base.specs.declared.events.Event.{Event}
 use Rattle.dg_base.specs.declared.events.Step.{Step}
-use Rattle.dg_rules.specs.World.{World}
 use Rattle.dg_rules.specs.Events.{mote_of, dt_of}
 use Rattle.dg_rules.specs.Runs.{Played, ItemStep}
-use Rattle.dg_rules.specs.Sizes.{most_motes, most_events}
+use Rattle.dg_rules.specs.Sizes.{most_motes}
 use Rattle.dg_script.specs.Items.{Item, Applies}
 use Rattle.dg_script.specs.declared.report.Report.{Report}
 use Rattle.dg_events.specs.Told.{Happened, happened, happening, told_by, nothing_told}
 use Rattle.dg_events.specs.Counts.{has_started}
 use Rattle.dg_events.specs.Counters.{as_u64}
-use Rattle.dg_events.specs.Noted.{IsEventPlayed, IsOutcome}
+use Rattle.dg_events.specs.Noted.{IsEventPlayed}
 use Rattle.dg_events.specs.Uptimes.{is_on, ms_before, ms_of, ms_on, on_ms_of, on_from, ends_on, never_on, up_until, with_start, with_stop, with_outcome, with_outcome_at, with_time, IsUptime, IsBefore, HasTimed}
 use Rattle.dg_events.specs.declared.told.Told.{Told}
 use Rattle.dg_events.specs.declared.uptime.Uptime.{Uptime}

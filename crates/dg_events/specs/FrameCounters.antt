@@ -3,7 +3,10 @@ use Rattle.std.specs.Prelude.{◌≡◌, ◌⊎◌, ℕ, ◌+◌, ◌*◌, ◌<�
 use Rattle.std.specs.Prelude.{slice_index, replicate}
 use Rattle.std.specs.Prelude.{Option, Some, None, option_map, map, slice_set, slice_index_or}
 use Rattle.dg_base.specs.declared.events.Event.{Event}
-use Rattle.dg_rules.specs.World.{Sent, frame_at}
+use Rattle.dg_meter.specs.Shares.{no_share}
+use Rattle.dg_frame.specs.Sizes.{wide_frame_size}
+use Rattle.dg_frame.specs.declared.FrameFault.{FrameFault}
+use Rattle.dg_rules.specs.World.{Sent, frame_at, wide_at}
 use Rattle.dg_rules.specs.Events.{mote_of}
 use Rattle.dg_rules.specs.Past.{brought}
 use Rattle.dg_rules.specs.Runs.{Played}
@@ -12,7 +15,9 @@ use Rattle.dg_script.specs.declared.report.Report.{Report}
 use Rattle.dg_events.specs.Counts.{count_at}
 use Rattle.dg_events.specs.Counters.{as_u64, AreCounts}
 use Rattle.dg_events.specs.Frames.{frame_number, frame_size, frames_sent, sent_at, sent_bytes_at, is_hearing, is_heard, bytes_at}
+use Rattle.dg_events.specs.FrameShares.{AreShares, with_fault}
 use Rattle.dg_events.specs.Noted.{IsEventPlayed, up_at}
+use Rattle.dg_events.specs.RefusedFrames.{fault_brought, is_refused_frame}
 use Rattle.dg_events.specs.declared.sent_frame.HeardFrame.{HeardFrame}
 use Rattle.dg_events.specs.declared.sent_frame.SentFrame.{SentFrame}
 use Rattle.dg_events.specs.declared.frame_counter.FrameCounts.{FrameCounts}
@@ -27,15 +32,17 @@ pub record AreSent (mote : ℕ) (played : List Played) (counts : List ℕ) : Typ
 pub record FramesAre (mote : ℕ) (played : List Played) (c : FrameCounts) : Type 0 where
   pub sent : AreSent mote played c.sent
   pub heard : AreCounts mote is_heard played 4 c.heard
+  pub refused : AreShares mote is_refused_frame played 5 c.refused
 
 -- the counts of each mote are those of what was played
 abbrev pub AllFrames : List FrameCounts → List Played → Type 0
 AllFrames motes played = (m : ℕ) (c : FrameCounts) → slice_get motes m ≡ Some c → FramesAre m played c
 
--- Each frame that was sent or heard has the size of its kind.
+-- Each frame that was sent or heard has the size of its kind, of which that of a wide advert is the greatest.
 pub record AreSized (played : List Played) : Type 0 where
   pub sent : (m k : ℕ) → sent_bytes_at m k played ≡ sent_at m k played * frame_size k
   pub heard : (m k : ℕ) → bytes_at m (is_heard k) played ≡ count_at m (is_heard k) played * frame_size k
+  pub refused : (m k : ℕ) → bytes_at m (is_refused_frame k) played ≤ length played * wide_frame_size
 
 -- The log has the frames that were sent, by their kinds, and the counts are those of what was played.
 pub record AreFrames (log : List SentFrame) (motes : List FrameCounts) (played : List Played) : Type 0 where
@@ -57,21 +64,23 @@ KeepsFrames before after = (played : List Played) → HasFrames before played �
 
 -- no frame was counted
 abbrev pub no_frames : FrameCounts
-no_frames = record { sent = replicate 4 0; heard = replicate 4 0 }
+no_frames = record { sent = replicate 4 0; heard = replicate 4 0; refused = replicate 5 no_share }
 
--- one more frame of a kind that was sent, or heard
+-- one more frame of a kind that was sent
 abbrev pub with_sent : (kind : ℕ) → FrameCounts → FrameCounts
 with_sent kind c = record c { sent = up_at kind c.sent }
 
-abbrev pub with_heard : (kind : ℕ) → FrameCounts → FrameCounts
-with_heard kind c = record c { heard = up_at kind c.heard }
+-- one more that was heard, and refused if it has a fault
+abbrev pub with_heard : (kind : ℕ) → Option FrameFault → FrameCounts → FrameCounts
+with_heard kind fault c =
+    record c { heard = up_at kind c.heard; refused = with_fault fault (frame_size kind) c.refused }
 
 -- the same among all motes
 abbrev pub with_sent_at : (mote kind : ℕ) → List FrameCounts → List FrameCounts
 with_sent_at mote kind motes = slice_set motes mote (with_sent kind (slice_index_or motes mote no_frames))
 
-abbrev pub with_heard_at : (mote kind : ℕ) → List FrameCounts → List FrameCounts
-with_heard_at mote kind motes = slice_set motes mote (with_heard kind (slice_index_or motes mote no_frames))
+abbrev pub with_heard_at : (mote kind : ℕ) → Option FrameFault → List FrameCounts → List FrameCounts
+with_heard_at mote kind fault motes = slice_set motes mote (with_heard kind fault (slice_index_or motes mote no_frames))
 
 -- ---- the log
 
@@ -108,10 +117,13 @@ pub record IsSending (e : Event) (lines : List Report) (kind : ℕ) (past : List
   pub size : length bytes ≡ frame_size kind
   pub sent : p.after.sent ≡ frames_sent past ++ record { by = mote_of e; bytes = bytes } ∷ []
 
--- An event brought its mote the frame with this number, if there is one, and sent none.
-pub record IsBringing (e : Event) (lines : List Report) (number : ℕ) (past : List Played) (p : Played) : Type 0 where
+-- An event brought its mote the frame with this number, if there is one, and sent none. The mote refuses the frame if there is a
+-- fault.
+pub record IsBringing (e : Event) (lines : List Report) (number : ℕ) (fault : Option FrameFault) (past : List Played)
+    (p : Played) : Type 0 where
   pub played : IsEventPlayed e lines p
   pub hears : is_hearing e ≡ true
   pub brings : brought p.before e ≡ option_map (λ (s : Sent). s.bytes) (frame_at p.before number)
+  pub refuses : fault_brought (wide_at p.before (mote_of e)) (brought p.before e) ≡ fault
   pub before : p.before.sent ≡ frames_sent past
   pub sent : p.after.sent ≡ frames_sent past

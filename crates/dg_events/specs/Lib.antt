@@ -4,5 +4,7 @@ pub mod Counts
 pub mod Counters
 pub mod Noted
 pub mod Frames
+pub mod RefusedFrames
+pub mod FrameShares
 pub mod FrameCounters
 pub mod Uptimes

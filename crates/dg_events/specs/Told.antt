@@ -1,8 +1,8 @@
 -- The outcome of an event by the rules, and by the lines that are reported of it (docs/SCRIPTS.md, "The report").
 use Rattle.std.specs.Prelude.{ℕ, Bool, true, false, List, Option, Some, None, option_map, fold}
 use Rattle.dg_volume.specs.Start.{Runs}
-use Rattle.dg_rules.specs.World.{World}
-use Rattle.dg_rules.specs.Events.{Does, Refuses, Goes, does}
+use Rattle.dg_rules.specs.World.{World, wide_at}
+use Rattle.dg_rules.specs.Events.{Does, Refuses, Goes, does, mote_of}
 use Rattle.dg_rules.specs.Steps.{blows}
 use Rattle.dg_rules.specs.Past.{started_unless, brought}
 use Rattle.dg_script.specs.Items.{Item, Declares, Applies}
@@ -29,14 +29,20 @@ abbrev pub came_of : Does → Option Cut → Told
 came_of (Refuses why) cut = record { refused = Some why; off = false; started = None }
 came_of (Goes d) cut = came_by (blows cut d.trail) d.started
 
--- An event that was played, with its outcome and the frame that it brought to its mote, if any.
+-- An event that was played, with its outcome, the frame that it brought to its mote, if any, and whether that mote is wide.
 pub record Happened : Type 0 where
   pub event : Event
   pub told : Told
   pub brought : Option (List ℕ)
+  pub wide : Bool
 
 abbrev pub happened : World → Step → Happened
-happened w step = record { event = step.event; told = came_of (does w step.event) step.cut; brought = brought w step.event }
+happened w step = record {
+  event = step.event;
+  told = came_of (does w step.event) step.cut;
+  brought = brought w step.event;
+  wide = wide_at w (mote_of step.event);
+}
 
 -- the event of an item, if it is one: a declaration is not an event
 abbrev pub happening : Item → World → Option Happened

@@ -6,12 +6,17 @@ ghost use Rattle.dg_rules.specs.Runs.{Played};
 ghost use Rattle.dg_script.specs.declared.report.Report.{Report};
 ghost use Rattle.dg_events.specs.Told.{told_by};
 ghost use Rattle.dg_events.specs.FrameCounters.{HasFrames, KeepsFrames, IsFrameless, IsSending, IsBringing, no_frames};
-ghost use Rattle.dg_events.specs.FrameCounters.{with_heard_at, with_sent_at, HearsIn, KeepsKinds};
+ghost use Rattle.dg_events.specs.FrameCounters.{with_heard, with_heard_at, with_sent_at, HearsIn, KeepsKinds};
+ghost use Rattle.dg_events.specs.FrameShares.{with_fault};
+ghost use Rattle.dg_events.specs.Frames.{frame_size};
 
-use crate::counting::add_one;
+use crate::counting::{add_one, add_share};
+use crate::fault_kinds::fault_kind;
 use crate::sent_frame::{HeardFrame, SentFrame};
 use crate::told::told_by;
 use dg_base::MOST_MOTES;
+use dg_frame::FrameFault;
+use dg_meter::Share;
 use dg_rules::Event;
 use dg_script::Report;
 use std::alloc::Global;
@@ -24,6 +29,21 @@ pub const SENT_KINDS: usize = 4;
 pub struct FrameCounts {
     pub sent: [u64; SENT_KINDS],
     pub heard: [u64; SENT_KINDS],
+    /// The frames that it heard and refused, by cause.
+    pub refused: [Share; 5],
+}
+
+/// The bytes of a frame of this kind.
+#[inline(always)]
+pub fn frame_bytes(kind: usize) -> usize
+    ensures { result ≡ frame_size kind }
+{
+    match kind {
+        0 => 38,
+        1 => 19,
+        2 => 35,
+        _ => 62,
+    }
 }
 
 impl FrameCounts {
@@ -34,7 +54,28 @@ impl FrameCounts {
         FrameCounts {
             sent: [0; SENT_KINDS],
             heard: [0; SENT_KINDS],
+            refused: [Share::none(); 5],
         }
+    }
+
+    /// The mote heard one more frame of this kind, which it refuses if there is a fault.
+    #[inline(always)]
+    fn hear(&mut self, kind: usize, fault: Option<FrameFault>)
+        ensures { self.new ≡ with_heard kind fault self.old }
+    {
+        add_one(&mut self.heard, kind);
+        add_refused(&mut self.refused, fault, frame_bytes(kind));
+    }
+}
+
+/// Counts a frame of this many bytes under its fault, if there is one.
+#[inline(always)]
+fn add_refused(shares: &mut [Share], fault: Option<FrameFault>, bytes: usize)
+    ensures { shares.new ≡ with_fault fault bytes shares.old }
+{
+    match fault {
+        Some(fault) => add_share(shares, fault_kind(fault), bytes),
+        None => {}
     }
 }
 
@@ -87,14 +128,14 @@ fn mark_in(sent: &mut [SentFrame], number: usize, traced: u16, state: u8)
     sent[number - 1].mark(traced, state);
 }
 
-/// A mote heard one more frame of this kind.
+/// A mote heard one more frame of this kind, which it refuses if there is a fault.
 #[inline(always)]
-fn add_heard(motes: &mut [FrameCounts], mote: u8, kind: u8)
-    ensures { motes.new ≡ with_heard_at mote kind motes.old }
+fn add_heard(motes: &mut [FrameCounts], mote: u8, kind: u8, fault: Option<FrameFault>)
+    ensures { motes.new ≡ with_heard_at mote kind fault motes.old }
 {
     let mote = usize::from(mote);
     if mote < motes.len() {
-        add_one(&mut motes[mote].heard, usize::from(kind));
+        motes[mote].hear(usize::from(kind), fault);
     }
 }
 
@@ -185,17 +226,18 @@ impl FrameCounter {
     }
 
     /// Counts the frame with this number, which an event brought to this mote, unless these lines report that the event was
-    /// refused. Answers what is known of the frame.
+    /// refused. The mote refuses the frame if there is a fault. Answers what is known of the frame.
     #[inline(always)]
     pub fn hear(
         &mut self,
         event: &Event,
         mote: u8,
         number: usize,
+        fault: Option<FrameFault>,
         reports: &[Report],
     ) -> Option<HeardFrame>
         requires mote { mote ≡ mote_of event.now }
-        ensures { (past : List Played) (p : Played) → IsBringing event.now reports.now number past p
+        ensures { (past : List Played) (p : Played) → IsBringing event.now reports.now number fault past p
             → HasFrames self.old past → HasFrames self.new (past ++ p ∷ []) }
     {
         if is_refused(reports) {
@@ -204,7 +246,7 @@ impl FrameCounter {
         match hear_in(&mut self.sent, number, mote) {
             None => None,
             Some(heard) => {
-                add_heard(&mut self.motes, mote, heard.kind);
+                add_heard(&mut self.motes, mote, heard.kind, fault);
                 Some(heard)
             }
         }

@@ -1,4 +1,4 @@
-use Rattle.std.proofs.Common.{None, replicate, []}
+use Rattle.std.proofs.Common.{[]}
 use Rattle.dg_events.proofs.CountLemmas.{all_here, all_other}
 use Rattle.dg_events.specs.declared.event_counts.EventCounts.{EventCounts}
 use Rattle.dg_events.proofs.event_counter.note_at.Goals as goal

@@ -8,7 +8,7 @@ use Rattle.dg_events.proofs.frame_counter.FrameCounter.hear.Goals as goal
 
 pub returns-then-is_refused : goal.returns-then-is_refused
 returns-then-is_refused c past p h has kept =
-    refused_frame c.args.self.now c.args.event.now c.args.reports.now c.args.number past p h (sym c.is_refused.ensures ∙ c.if-is_refused.true) has kept
+    refused_frame c.args.self.now c.args.event.now c.args.reports.now c.args.number c.args.fault past p h (sym c.is_refused.ensures ∙ c.if-is_refused.true) has kept
 
 pub returns-in-None : goal.returns-in-None
 returns-in-None c past p h has kept =
@@ -19,7 +19,7 @@ returns-in-None c past p h has kept =
     subst (λ (xs : List SentFrame). (c.args.number ≡ 0) ⊎ (length xs < c.args.number)) c.deref_mut.ensures.value c.in-None.ensures.0 in
     let back = take_at new (drop (length new) log) c.args.self.now.sent.len (ap length same ∙ sym c.args.self.now.sent.ok.0) ∙ same in
     subst (λ (items : List SentFrame). AreFrames items c.args.self.now.motes (past ++ p ∷ [])) (sym back)
-    (unknown_frame c.args.self.now c.args.event.now c.args.reports.now c.args.number past p h far has kept)
+    (unknown_frame c.args.self.now c.args.event.now c.args.reports.now c.args.number c.args.fault past p h far has kept)
 
 pub returns-in-Some : goal.returns-in-Some
 returns-in-Some c past p h has kept =
@@ -31,5 +31,5 @@ returns-in-Some c past p h has kept =
     let back = take_at new (drop (length new) log) c.args.self.now.sent.len (kinds_long log new at.kept ∙ sym c.args.self.now.sent.ok.0) in
     subst (λ (items : List SentFrame). AreFrames items c.add_heard.new.motes (past ++ p ∷ [])) (sym back)
     (subst (λ (ms : List FrameCounts). AreFrames new ms (past ++ p ∷ [])) (sym c.add_heard.ensures)
-    (heard_frame log new c.args.self.now.motes c.args.number kind c.args.event.now c.args.reports.now past p h at (has kept) c.args.mote
+    (heard_frame log new c.args.self.now.motes c.args.number kind c.args.fault c.args.event.now c.args.reports.now past p h at (has kept) c.args.mote
     (sym c.is_refused.ensures ∙ c.if-is_refused.false) c.requires.mote))

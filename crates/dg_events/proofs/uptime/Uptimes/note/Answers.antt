@@ -1,4 +1,4 @@
-use Rattle.std.proofs.Common.{◌≡◌, ◌∷◌, ◌++◌, [], ℕ, ◌<◌, ◌^◌, sym, ap, subst, ◌∙◌}
+use Rattle.std.proofs.Common.{◌∷◌, ◌++◌, [], ℕ, ◌<◌, ◌^◌, sym, ap, subst, ◌∙◌}
 use Rattle.dg_rules.specs.Events.{mote_of}
 use Rattle.dg_events.specs.Told.{told_by}
 use Rattle.dg_events.specs.Uptimes.{with_time, HasTimed}

@@ -1,6 +1,6 @@
 use Rattle.dg_cost_text.specs.Table.{table_of_rows}
 use Rattle.dg_cost.proofs.FrameLemmas.{four_kinds}
-use Rattle.dg_cost.proofs.mote_rows.push_kinds.Goals as goal
+use Rattle.dg_cost.proofs.frame_rows.push_kinds.Goals as goal
 
 pub returns : goal.returns
 returns c =

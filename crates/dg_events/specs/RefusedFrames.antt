@@ -1,0 +1,42 @@
+-- The frames that motes hear and refuse, by cause (docs/COMMANDS.md, "What a script costs").
+use Rattle.std.specs.Prelude.{ℕ, ◌==◌, ◌&&◌, not, Bool, false, List, [], ◌∷◌, codes, Option, Some, None, is_some, Result, Ok, Err}
+use Rattle.dg_frame.specs.Grammar.{message_of}
+use Rattle.dg_frame.specs.declared.Message.{Message}
+use Rattle.dg_frame.specs.declared.FrameFault.{FrameFault}
+use Rattle.dg_frame.specs.declared.FrameFault.TheVariants.{Short, Kind, Length, Check, Range}
+use Rattle.dg_events.specs.Frames.{is_hearing}
+use Rattle.dg_events.specs.Told.{Happened}
+
+-- ---- causes: short, kind, length, check, range
+
+abbrev pub fault_number : FrameFault → ℕ
+fault_number Short = 0
+fault_number Kind = 1
+fault_number Length = 2
+fault_number Check = 3
+fault_number Range = 4
+
+-- their names in keys
+abbrev pub fault_names : List (List ℕ)
+fault_names = codes "short" ∷ codes "kind" ∷ codes "length" ∷ codes "check" ∷ codes "range" ∷ []
+
+-- ---- refused frames
+
+-- why a reader refuses bytes, None if they spell a message
+abbrev pub reader_fault : Result Message FrameFault → Option FrameFault
+reader_fault (Ok message) = None
+reader_fault (Err fault) = Some fault
+
+-- why a mote, wide or narrow, refuses the frame that an event brings to it, None if it refuses none
+abbrev pub fault_brought : (wide : Bool) → Option (List ℕ) → Option FrameFault
+fault_brought wide None = None
+fault_brought wide (Some bytes) = reader_fault (message_of bytes wide)
+
+abbrev pub is_refusal : (cause : ℕ) → Option FrameFault → Bool
+is_refusal cause None = false
+is_refusal cause (Some fault) = fault_number fault == cause
+
+-- A mote hears a frame and refuses it by a cause: the event that brings the frame is not refused itself.
+abbrev pub is_refused_frame : (cause : ℕ) → Happened → Bool
+is_refused_frame cause x =
+    is_hearing x.event && (not (is_some x.told.refused) && is_refusal cause (fault_brought x.wide x.brought))
