@@ -1,7 +1,6 @@
 -- The rows of frames of a counter are those of the run that it counted.
-use Rattle.std.proofs.Common.{◌≡◌, ℕ, ◌+◌, ◌*◌, ◌-◌, ◌%◌, ◌^◌, ◌<◌, ◌≤◌, Bool, true, false, cond, ◌==◌, List, [], ◌∷◌, ◌++◌, length, get_or, min, refl, sym, ap, subst, ◌∙◌, arith}
-use Rattle.std.specs.Prelude.{slice_index, codes, map}
-use Rattle.std.specs.List.{range_with_len}
+use Rattle.std.proofs.Common.{◌≡◌, ℕ, ◌+◌, ◌*◌, ◌-◌, ◌%◌, ◌^◌, ◌<◌, ◌≤◌, Bool, true, false, cond, ◌==◌, List, ◌++◌, length, get_or, min, sym, ap, subst, ◌∙◌, arith}
+use Rattle.std.specs.Prelude.{slice_index, codes}
 use Rattle.std.proofs.Math.Nat.{min-eq_left, mul-le-mul}
 use Rattle.std.proofs.lemmas.Nat.{mod-mul-add}
 use Rattle.std.proofs.lemmas.List.FromFn.{fill_by_all}
@@ -9,13 +8,12 @@ use Rattle.std.proofs.lemmas.List.Sums.{count_by-le-length}
 use Rattle.dg_meter.specs.Shares.{no_share}
 use Rattle.dg_meter.specs.declared.share.Share.{Share}
 use Rattle.dg_rules.specs.Sizes.{most_events}
-use Rattle.dg_rules.specs.World.{Sent}
 use Rattle.dg_rules.specs.Runs.{Played}
 use Rattle.dg_events.specs.Told.{happening}
 use Rattle.dg_events.specs.Counts.{passes, at, count_at}
 use Rattle.dg_events.specs.Counters.{as_u64}
 use Rattle.dg_events.specs.Frames.{frame_size, frames_sent, is_sent, sent_at, sent_bytes_at, is_heard, bytes_at}
-use Rattle.dg_events.specs.FrameShares.{brought_share, capped_share, AreShares}
+use Rattle.dg_events.specs.FrameShares.{brought_share, capped_share}
 use Rattle.dg_events.specs.RefusedFrames.{is_refused_frame}
 use Rattle.dg_events.specs.FrameCounters.{AreFrames, FramesAre}
 use Rattle.dg_events.specs.declared.sent_frame.SentFrame.{SentFrame}
@@ -23,7 +21,7 @@ use Rattle.dg_events.specs.declared.frame_counter.FrameCounts.{FrameCounts}
 use Rattle.dg_cost_text.specs.Table.{share_rows}
 use Rattle.dg_cost.specs.EventRows.{HasRows}
 use Rattle.dg_cost.proofs.RowLemmas.{then_rows}
-use Rattle.dg_cost.specs.FrameRows.{rows_of_frames, bytes_of_kind, counted_rows, refused_shares, HasFrameCounts, sent_rows, heard_rows, refused_rows, HasFrameRows}
+use Rattle.dg_cost.specs.FrameRows.{rows_of_frames, bytes_of_kind, counted_rows, refused_shares, HasFrameCounts, HasFrameRows}
 
 below_end : (n w : ℕ) → n < w → n % w ≡ n
 below_end n w lt = let is : n ≡ 0 * w + n = omega arith in ap (λ (j : ℕ). j % w) is ∙ mod-mul-add 0 w n lt
