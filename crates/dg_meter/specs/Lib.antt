@@ -2,3 +2,4 @@ pub mod Regions
 pub mod Shares
 pub mod Tallies
 pub mod Meters
+pub mod Pages

@@ -1,5 +1,5 @@
 -- How operations are counted: each once, with its bytes, in its part of the chip.
-use Rattle.std.specs.Prelude.{◌≡◌, ◌≢◌, ℕ, ◌/◌, ◌<◌, Option, Some, None}
+use Rattle.std.specs.Prelude.{◌≡◌, ◌≢◌, ℕ, ◌/◌, Some, None}
 use Rattle.dg_nor.specs.Sizes.{sector_size}
 use Rattle.dg_meter.specs.Regions.{region_of}
 use Rattle.dg_meter.specs.Shares.{capped_sum, no_shares, share_noted}

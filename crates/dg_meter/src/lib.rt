@@ -3,6 +3,7 @@
 //! A meter wraps a chip, forwards each call to it, and exposes all that the chip exposes.
 #![tactic(auto)]
 
+mod known;
 mod laws;
 mod meter;
 mod region;

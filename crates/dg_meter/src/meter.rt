@@ -4,20 +4,29 @@ ghost use Rattle.dg_words.specs.Cells.{part};
 ghost use Rattle.dg_nor.specs.Sizes.{sectors, sector_size, chip_size};
 ghost use Rattle.dg_nor.specs.Chip.{programmed, erased, CutProgram, CutErase};
 ghost use Rattle.dg_nor.specs.Device.{Ran, Halts, Took, taken_more};
-ghost use Rattle.dg_meter.specs.Meters.{metered_device, chip_of, tally_of};
-ghost use Rattle.dg_meter.specs.Tallies.{Erased, Programmed, NoOperations};
+ghost use Rattle.dg_meter.specs.Pages.{KnowsPages};
 
+use crate::known::{byte_for, forget, learn, pages_cell, slot_at};
 use crate::tally::{SLOTS, Tally};
-use dg_nor::{Nor, Stopped};
+use dg_nor::{Nor, SECTOR_SIZE, Stopped};
 
-/// A device over another one, to which it passes every call. It counts the programs and erases that are made.
+/// A device over another one, to which it passes every call. It counts the programs and erases that are made, and knows how many
+/// pages slots have.
 #[derive(Drop)]
-pub struct Metered<N> {
+pub struct Metered<N: Nor> {
     inner: N,
     tally: Tally,
+    /// How many pages each slot has by its header, 0 where that is not known.
+    known: [u8; SLOTS],
+    ghost right: { KnowsPages known (N.device inner).image },
 }
 
 impl<N: Nor> Metered<N> {
+    ghost use Rattle.std.specs.Prelude.{◌≢◌, slice_index};
+    ghost use Rattle.dg_meter.specs.Meters.{chip_of, tally_of};
+    ghost use Rattle.dg_meter.specs.Tallies.{NoOperations};
+    ghost use Rattle.dg_meter.specs.Pages.{pages_at};
+
     /// Counts from now on.
     pub fn new(inner: N) -> Metered<N>
         ensures inner { chip_of result ≡ inner }
@@ -26,6 +35,7 @@ impl<N: Nor> Metered<N> {
         Metered {
             inner,
             tally: Tally::none(),
+            known: [0; SLOTS],
         }
     }
 
@@ -36,18 +46,40 @@ impl<N: Nor> Metered<N> {
         &self.tally
     }
 
-    /// A slot that exists already has this many pages.
-    pub fn know_pages(&mut self, slot: usize, pages: u8)
-        ensures inner { chip_of self.new ≡ chip_of self.old }
+    /// How many pages a slot has by its header, 0 where that is not known.
+    pub fn pages(&self, slot: usize) -> u8
+        ensures { result ≢ 0 → slice_index (N.device (chip_of self.now)).image (pages_at slot) ≡ result }
     {
-        if slot < SLOTS {
-            self.tally.pages[slot] = pages;
+        if SLOTS <= slot {
+            return 0;
+        }
+        self.known[slot]
+    }
+
+    /// Reads how many pages each slot has. A chip that stops leaves the rest unknown.
+    pub fn look(&mut self)
+        ensures { tally_of self.new ≡ tally_of self.old }
+    {
+        for slot in 0..SLOTS {
+            self.look_at(slot);
+        }
+    }
+
+    fn look_at(&mut self, slot: usize)
+        requires { slot < 7 }
+        ensures { tally_of self.new ≡ tally_of self.old }
+    {
+        let mut byte = [0];
+        forget(&mut self.known, slot);
+        if self.inner.read(pages_cell(slot), &mut byte).is_ok() {
+            learn(&mut self.known, slot, byte[0]);
         }
     }
 }
 
 impl<N: Nor> Nor for Metered<N> {
-    ghost use Rattle.dg_meter.specs.Meters.{metered_device, chip_of, tally_of};
+    ghost use Rattle.dg_meter.specs.Meters.{metered_device, tally_of};
+    ghost use Rattle.dg_meter.specs.Tallies.{Erased, Programmed};
 
     ghost device = { metered_device N.device };
 
@@ -89,7 +121,10 @@ impl<N: Nor> Nor for Metered<N> {
         ensures counted { OnOk result (Programmed at (length bytes.now) (tally_of self.old) (tally_of self.new)) }
         ensures uncounted { OnErr result (tally_of self.new ≡ tally_of self.old) }
     {
+        let slot = slot_at(at, bytes.len());
+        let was = forget(&mut self.known, slot);
         self.inner.program(at, bytes)?;
+        learn(&mut self.known, slot, was & byte_for(slot, at, bytes));
         self.tally.program(at, bytes);
         Ok(())
     }
@@ -109,7 +144,10 @@ impl<N: Nor> Nor for Metered<N> {
         ensures counted { OnOk result (Erased sector (tally_of self.old) (tally_of self.new)) }
         ensures uncounted { OnErr result (tally_of self.new ≡ tally_of self.old) }
     {
+        let slot = slot_at(sector * SECTOR_SIZE, SECTOR_SIZE as usize);
+        forget(&mut self.known, slot);
         self.inner.erase(sector)?;
+        learn(&mut self.known, slot, u8::MAX);
         self.tally.erase(sector);
         Ok(())
     }

@@ -3,7 +3,7 @@ ghost use Rattle.std.specs.Prelude.{◌≡◌, ◌≢◌, length};
 ghost use Rattle.dg_nor.specs.Sizes.{sector_size};
 ghost use Rattle.dg_meter.specs.Tallies.{Erased, Programmed, NoOperations, shares_of};
 
-use crate::region::{FIRST_SLOT, Region, SLOT_SECTORS};
+use crate::region::Region;
 use crate::shares::Shares;
 use dg_nor::SECTOR_SIZE;
 
@@ -12,9 +12,6 @@ pub const SLOTS: usize = 7;
 
 /// The bytes of a header that are programmed as a slot is taken.
 const HEADER: usize = 10;
-
-/// Where the number of pages is in a header.
-const HEADER_PAGES: usize = 3;
 
 /// The kind of an operation.
 #[derive(Clone, Copy, Debug, PartialEq, Eq)]
@@ -43,8 +40,6 @@ pub struct Tally {
     pub last: Option<Operation>,
     /// The headers that were written when slots were taken.
     pub headers: u64,
-    /// The number of pages in the header that was last written for each slot.
-    pub pages: [u8; SLOTS],
 }
 
 impl Tally {
@@ -58,7 +53,6 @@ impl Tally {
             erases: Shares::none(),
             last: None,
             headers: 0,
-            pages: [0; SLOTS],
         }
     }
 
@@ -105,23 +99,8 @@ impl Tally {
             sector,
             bytes: bytes.len(),
         });
-        self.note_header(region, sector, bytes);
-    }
-
-    /// Notes the number of pages in the header of a slot.
-    fn note_header(&mut self, region: Region, sector: u32, bytes: &[u8])
-        ensures operations { self.new.operations ≡ self.old.operations }
-        ensures programs { self.new.programs ≡ self.old.programs }
-        ensures erases { self.new.erases ≡ self.old.erases }
-        ensures last { self.new.last ≡ self.old.last }
-    {
-        if region != Region::Head || bytes.len() != HEADER {
-            return;
-        }
-        self.headers = self.headers.saturating_add(1);
-        let slot = (sector.saturating_sub(FIRST_SLOT) / SLOT_SECTORS) as usize;
-        if slot < SLOTS {
-            self.pages[slot] = bytes[HEADER_PAGES];
+        if region == Region::Head && bytes.len() == HEADER {
+            self.headers = self.headers.saturating_add(1);
         }
     }
 }
