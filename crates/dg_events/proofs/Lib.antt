@@ -5,3 +5,4 @@ mod FrameEvents
 mod ToldLemmas
 mod PowerLemmas
 mod UptimeLemmas
+pub mod HaveLemmas

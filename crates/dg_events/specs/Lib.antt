@@ -8,3 +8,4 @@ pub mod RefusedFrames
 pub mod FrameShares
 pub mod FrameCounters
 pub mod Uptimes
+pub mod Keeps
