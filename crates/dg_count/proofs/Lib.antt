@@ -2,3 +2,4 @@ mod FrameLemmas
 mod FaultLemmas
 mod KindLemmas
 mod RunLemmas
+mod WholeLemmas

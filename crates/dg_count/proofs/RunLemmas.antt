@@ -1,6 +1,6 @@
 -- Counts of a whole run: declarations are not events, and a run has at most `most_events` events.
-use Rattle.std.proofs.Common.{◌≡◌, ℕ, ◌+◌, ◌%◌, ◌^◌, ◌<◌, ◌≤◌, Bool, true, false, cond, List, [], ◌∷◌, ◌++◌, get_or, inl, inr, Result, Ok, Err, zero, suc, map, filter, count_by, length, refl, sym, ap, ◌∙◌, arith}
-use Rattle.std.specs.Prelude.{is_some, Option, Some, None}
+use Rattle.std.proofs.Common.{◌≡◌, ℕ, ◌+◌, ◌%◌, ◌^◌, ◌<◌, ◌≤◌, Bool, true, false, cond, List, [], ◌∷◌, ◌++◌, get_or, inl, inr, Result, Ok, Err, zero, suc, map, filter, count_by, length, refl, sym, ap, subst, ◌∙◌, arith}
+use Rattle.std.specs.Prelude.{is_some, slice_get, Option, Some, None}
 use Rattle.std.proofs.lemmas.Nat.{mod-mul-add}
 use Rattle.std.proofs.lemmas.Bool.{both_ways, cases_lt}
 use Rattle.std.proofs.lemmas.List.Sums.{sum_by-cons, length-filter, count_by-le-length}
@@ -28,6 +28,14 @@ use Rattle.dg_events.specs.declared.event_counts.EventCounts.{EventCounts}
 use Rattle.dg_events.specs.declared.event_counter.EventCounter.{EventCounter}
 use Rattle.dg_events.specs.declared.frame_counter.FrameCounter.{FrameCounter}
 use Rattle.dg_count.specs.Shown.{IsShown, CountsFrames}
+use Rattle.dg_count.specs.Wholes.{IsMomentOf, HasWholes, BringsWholes}
+use Rattle.dg_rules.specs.Events.{mote_of}
+use Rattle.dg_rules.specs.World.{store_at}
+use Rattle.dg_volume.specs.Stands.{Stands}
+use Rattle.dg_world.specs.Applying.{step_of}
+use Rattle.dg_events.proofs.HaveLemmas.{event_tells}
+use Rattle.dg_replay.proofs.ItemLemmas.{step_counts}
+use Rattle.dg_count.specs.declared.wholes.Wholes.{Wholes}
 use Rattle.dg_world.specs.declared.world.World.{World as CodeWorld}
 use Rattle.dg_count.specs.declared.counter.Counter.{Counter}
 use Rattle.dg_nor.specs.Device.{Device}
@@ -186,28 +194,57 @@ world_before {p} {events = events} count led is placed few = record {
   ];
 }
 
+-- the board of a mote stands for its store after an event
+pub stands_after : {p : Played} {e : Event} {reported : Bool} {after : Deployment} {stores : List Store} {events : List Played} (count : ℕ) (d : Device)
+    → LeadTo stores events p.before → IsApplied p e reported after → count ≡ length stores → mote_of e < count
+    → slice_get after.boards (mote_of e) ≡ Some d → Stands d.image (store_at p.after (mote_of e))
+stands_after {p} {e} {reported} {after} count d led is placed lt there =
+    let step : ItemStep p.before (Applies (step_of e is.cut) reported) p.after p.reports = subst (λ (i : Item). ItemStep p.before i p.after p.reports) is.item is.step in
+    let same : length p.after.sites ≡ length p.before.sites = (step_counts p.before p.after (step_of e is.cut) step.0 step.1).sites in
+    (is.stands.sites (mote_of e) d (omega (arith, lt, placed, same, led.motes)) there).stands
+
 -- the boards of this many motes are used from now on
-pub seen_placed : {counts : EventCounter} {times : Uptimes} {frames : FrameCounter} {placed motes : ℕ} {used : Option ℕ} {boards : List Device} (stores : List Store)
-    → IsPlaced motes used boards stores → IsSeenBy counts times frames placed [] [] → IsSeenBy counts times frames motes stores []
-seen_placed stores is seen = record {
+pub seen_placed : {counts : EventCounter} {times : Uptimes} {frames : FrameCounter} {wholes begun : Wholes} {placed motes : ℕ} {used : Option ℕ} {boards : List Device} (stores : List Store)
+    → IsPlaced motes used boards stores → (HasWholes wholes [] → HasWholes begun []) → IsSeenBy counts times frames wholes placed [] []
+    → IsSeenBy counts times frames begun motes stores []
+seen_placed stores is begins seen = record {
   counted = seen.counted;
   timed = seen.timed;
   framed = seen.framed;
+  noted = begins seen.noted;
   motes = sym is.stand.count;
   few = omega (arith, is.stand.count, is.few);
 }
 
+-- the moment of a counter that has counted and timed these events
+moment_of : (events : List Played) (c : EventCounter) (t : Uptimes) → HasCounted c events → HasTimed t events → IsMomentOf events (record { event = c.all; ms = t.ms })
+moment_of events c t counted timed = record {
+  event = counted.all
+      ∙ below_end (count_all events) most_events (2 ^ 64)
+      (omega (arith, timed.few, count_by-le-length (λ (p : Played). is_some (happening p.item p.before)) events)) (omega arith);
+  ms = timed.ms;
+}
+
 -- one more event was counted
-pub seen_event : {before after : EventCounter} {times later : Uptimes} {frames more : FrameCounter} {world : CodeWorld} {placed still : ℕ} {e : Event} {lines : List Report} (stores : List Store) (events : List Played) (p : Played)
+pub seen_event : {before after : EventCounter} {times later : Uptimes} {frames more : FrameCounter} {wholes new : Wholes} {world : CodeWorld} {boards : List Device} {placed still : ℕ} {e : Event} {lines : List Report} (stores : List Store) (events : List Played) (p : Played)
     → CountsEvent before after e lines → still ≡ placed
     → ((past : List Played) (q : Played) → IsEventPlayed e lines q → IsBefore placed past q.before → HasTimed times past → HasTimed later (past ++ q ∷ []))
-    → CountsFrames frames more world e lines → IsShown world e lines events p
-    → IsEventPlayed e lines p → IsBefore placed events p.before → IsSeenBy before times frames placed stores events
-    → IsSeenBy after later more still stores (events ++ p ∷ [])
-seen_event stores events p counts same clock sent shown is was seen = record {
+    → CountsFrames frames more world e lines
+    → BringsWholes wholes new placed (mote_of e) boards lines (record { event = after.all; ms = later.ms })
+    → ((d : Device) → mote_of e < placed → slice_get boards (mote_of e) ≡ Some d → Stands d.image (store_at p.after (mote_of e)))
+    → IsShown world e lines events p
+    → IsEventPlayed e lines p → IsBefore placed events p.before → IsSeenBy before times frames wholes placed stores events
+    → IsSeenBy after later more new still stores (events ++ p ∷ [])
+seen_event {after = after} {later = later} stores events p counts same clock sent notes stands shown is was seen = record {
   counted = counts events p is seen.counted;
   timed = clock events p is was seen.timed;
   framed = sent events p shown seen.framed;
+  noted = notes events p (record {
+    told = is.told;
+    tells = λ lt. event_tells p is (omega (arith, lt, was.motes));
+    stands = stands;
+    moment = moment_of (events ++ p ∷ []) after later (counts events p is seen.counted) (clock events p is was seen.timed);
+  }) seen.noted;
   motes = same ∙ seen.motes;
   few = seen.few;
 }
@@ -219,6 +256,7 @@ replay_seen c came most seen = record {
   events = run_counted c.events came.played most seen.counted;
   times = seen.timed;
   frames = seen.framed;
+  wholes = seen.noted;
   motes = seen.motes;
   few = omega (arith, seen.motes, seen.few);
 }

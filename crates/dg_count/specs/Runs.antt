@@ -19,6 +19,11 @@ use Rattle.dg_events.specs.FrameCounters.{HasFrames}
 use Rattle.dg_events.specs.declared.event_counter.EventCounter.{EventCounter}
 use Rattle.dg_events.specs.declared.frame_counter.FrameCounter.{FrameCounter}
 use Rattle.dg_events.specs.declared.uptime.Uptimes.{Uptimes}
+use Rattle.dg_cost_text.specs.declared.moment.Moment.{Moment}
+use Rattle.dg_nor.specs.Device.{Device}
+use Rattle.dg_rules.specs.Events.{mote_of}
+use Rattle.dg_count.specs.Wholes.{HasWholes, BringsWholes}
+use Rattle.dg_count.specs.declared.wholes.Wholes.{Wholes}
 use Rattle.dg_count.specs.declared.counter.Counter.{Counter}
 
 -- this event, of which these lines are reported, was counted after those that were played before it
@@ -32,18 +37,29 @@ TimesEvent before after e lines =
     (past : List Played) (p : Played) → IsEventPlayed e lines p → IsBefore before.placed past p.before
     → HasTimed before.times past → HasTimed after.times (past ++ p ∷ [])
 
--- These events were counted and timed, and their frames counted, at this many motes, whose chips began with these stores.
-pub record IsSeenBy (counts : EventCounter) (times : Uptimes) (frames : FrameCounter) (placed : ℕ) (stores : List Store)
-    (events : List Played) : Type 0 where
+-- the moment that a counter has come to
+abbrev pub now_of : Counter → Moment
+now_of c = record { event = c.events.all; ms = c.times.ms }
+
+-- what became whole in this event, of which these lines are reported, was noted, after what was noted before it
+abbrev pub NotesWholes : (before after : Counter) → List Device → Event → List Report → Type 0
+NotesWholes before after boards e lines =
+    BringsWholes before.wholes after.wholes before.placed (mote_of e) boards lines (now_of after)
+
+-- These events were counted and timed, their frames counted, and noted what became whole, at this many motes, whose chips began
+-- with these stores.
+pub record IsSeenBy (counts : EventCounter) (times : Uptimes) (frames : FrameCounter) (wholes : Wholes) (placed : ℕ)
+    (stores : List Store) (events : List Played) : Type 0 where
   pub counted : HasCounted counts events
   pub timed : HasTimed times events
   pub framed : HasFrames frames events
+  pub noted : HasWholes wholes events
   pub motes : placed ≡ length stores
   pub few : length stores ≤ most_motes
 
 -- the counter has counted these events, at motes whose chips began with these stores
 abbrev pub HasSeen : Counter → (stores : List Store) → (events : List Played) → Type 0
-HasSeen c stores events = IsSeenBy c.events c.times c.frames c.placed stores events
+HasSeen c stores events = IsSeenBy c.events c.times c.frames c.wholes c.placed stores events
 
 -- Each event that was played was counted once, and no count wrapped.
 pub record CountedRun (c : EventCounter) (played : List Played) : Type 0 where
@@ -57,5 +73,6 @@ pub record CountedReplay {table : List Row} {script : Script} (c : Counter) (cam
   pub events : CountedRun c.events came.played
   pub times : HasTimed c.times (events_played came.played)
   pub frames : HasFrames c.frames (events_played came.played)
+  pub wholes : HasWholes c.wholes (events_played came.played)
   pub motes : c.placed ≡ length (stores_in (beginning_of came.ground came.done).world)
   pub few : c.placed ≤ most_motes

@@ -5,6 +5,7 @@ ghost use Rattle.dg_count.specs.Ended.{counts_at};
 
 use crate::costs::{Costs, Given};
 use crate::place::EventPlace;
+use crate::wholes::Wholes;
 use dg_cost_text::Moment;
 use dg_events::{EventCounter, EventCounts, FrameCounter, Uptimes, add_one};
 use std::alloc::Global;
@@ -20,6 +21,8 @@ pub struct Counter {
     pub times: Uptimes,
     /// The frames that motes sent and heard.
     pub frames: FrameCounter,
+    /// When images became whole.
+    pub wholes: Wholes,
     /// What they cost.
     pub costs: Costs,
 }
@@ -34,15 +37,17 @@ impl Counter {
             placed: 0,
             times: Uptimes::new(),
             frames: FrameCounter::new(alloc),
+            wholes: Wholes::new(alloc),
             costs: Costs::new(alloc, given, timed),
         }
     }
 
     /// Memory ran out: none of these counts is valid.
     pub fn failed(&self) -> bool
-        ensures { result ≡ false → self.now.frames.lost ≡ false }
+        ensures frames { result ≡ false → self.now.frames.lost ≡ false }
+        ensures wholes { result ≡ false → self.now.wholes.lost ≡ false }
     {
-        self.costs.failed || self.frames.lost
+        self.costs.failed || self.frames.lost || self.wholes.lost
     }
 
     /// What was counted of the events at a mote, plus this event if it was there and found no image to start.

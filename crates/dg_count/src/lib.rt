@@ -16,6 +16,7 @@ mod place;
 mod power;
 mod share;
 mod watching;
+mod wholes;
 mod work;
 
 pub use call::replay_counted;
@@ -23,7 +24,8 @@ pub use costs::{Costs, Given};
 pub use counter::Counter;
 pub use frames::{FrameIndex, PUT, SentBy, TRACED, TRACED_PUT, USED, sent_by_each, share_of};
 pub use kinds::{ANSWERS, FRAMES, PACKET};
-pub use moments::{Have, Moments, Whole};
+pub use moments::{Have, Moments};
 pub use mote::{MOTES, MoteCost};
 pub use place::EventPlace;
 pub use share::narrow;
+pub use wholes::{Whole, Wholes};

@@ -1,4 +1,4 @@
-//! When images became whole.
+//! What motes keep, and when all of them kept the same.
 
 use dg_base::ImageVersion;
 use dg_cost_text::Moment;
@@ -15,21 +15,10 @@ pub struct Have {
     pub whole: Option<Moment>,
 }
 
-/// An image that became whole at a mote, the `times`-th time.
-#[derive(Clone, Copy, PartialEq, Eq, PartialOrd, Ord)]
-pub struct Whole {
-    pub mote: u8,
-    pub image: u8,
-    pub version: u32,
-    pub times: u32,
-}
-
-/// What motes keep, and when images became whole.
+/// What motes keep, and when all of them kept the same.
 #[derive(Drop)]
 pub struct Moments {
     pub keeps: Vec<[Option<Have>; SLOTS]>,
-    /// When images became whole.
-    pub wholes: BTreeMap<Whole, Moment>,
     /// When every mote had a version whole at the same time, for the first time.
     pub all: BTreeMap<ImageVersion, Moment>,
 }
@@ -38,7 +27,6 @@ impl Moments {
     pub fn new(alloc: Global) -> Moments {
         Moments {
             keeps: Vec::new(alloc),
-            wholes: BTreeMap::new(alloc),
             all: BTreeMap::new(alloc),
         }
     }
@@ -91,15 +79,6 @@ impl Moments {
         if !whole || image == 0 {
             return Ok(());
         }
-        let whole = Whole {
-            mote,
-            image,
-            version,
-            times: self.times(mote, image, version),
-        };
-        if self.wholes.insert(whole, at).is_err() {
-            return Err(AllocError);
-        }
         self.note_all(ImageVersion { image, version }, at)
     }
 
@@ -112,17 +91,6 @@ impl Moments {
             Ok(_) => Ok(()),
             Err(_) => Err(AllocError),
         }
-    }
-
-    /// How many times a version became whole at a mote, this time included.
-    fn times(&self, mote: u8, image: u8, version: u32) -> u32 {
-        let mut times: u32 = 1;
-        for whole in self.wholes.keys() {
-            if whole.mote == mote && whole.image == image && whole.version == version {
-                times = times.saturating_add(1);
-            }
-        }
-        times
     }
 
     /// Whether every mote keeps this version whole.

@@ -11,7 +11,7 @@ use crate::place::{EventPlace, place_of};
 use crate::work::{NO_WORK, Work};
 use dg_cost_text::Moment;
 use dg_events::{FrameCounter, HeardFrame, NOTHING_TOLD, Told, Uptimes, event_kind, told_by};
-use dg_meter::{Metered, SLOTS, Tally};
+use dg_meter::{Metered, Tally};
 use dg_mote::Heard;
 use dg_nor::Nor;
 use dg_rules::Event;
@@ -35,10 +35,10 @@ fn are_sent(reports: &[Report]) -> bool {
 
 impl Costs {
     /// Notes what a mote keeps, by these lines.
-    fn note_kept(
+    fn note_kept<N: Nor>(
         &mut self,
         mote: u8,
-        pages: &[u8; SLOTS],
+        board: &Metered<N>,
         reports: &[Report],
         now: Moment,
     ) -> Result<(), AllocError> {
@@ -51,10 +51,7 @@ impl Costs {
                     pages: done,
                     ..
                 } => {
-                    let all = match pages.get(usize::from(*image)) {
-                        Some(all) => *all,
-                        None => 0,
-                    };
+                    let all = board.pages(usize::from(*image));
                     self.moments.keep(mote, *image, *version, *done, all, now)?;
                 }
                 _ => {}
@@ -85,30 +82,30 @@ impl Costs {
         if boards.len() <= index {
             return Ok(());
         }
-        let tally = boards[index].tally();
-        if !reports.is_empty() || self.operations[index] != tally.operations {
-            return self.note_busy_tick(frames, world, event, number, times, tally, reports);
+        let board = &boards[index];
+        if !reports.is_empty() || self.operations[index] != board.tally().operations {
+            return self.note_busy_tick(frames, world, event, number, times, board, reports);
         }
         Ok(())
     }
 
     /// A tick was applied that reports something or made operations. Most of these sent a frame and made none.
     #[inline(never)]
-    fn note_busy_tick(
+    fn note_busy_tick<N: Nor>(
         &mut self,
         frames: &mut FrameCounter,
         world: &World,
         event: &Event,
         number: u64,
         times: &Uptimes,
-        tally: &Tally,
+        board: &Metered<N>,
         reports: &[Report],
     ) -> Result<(), AllocError>
         ensures { KeepsFrames frames.old frames.new }
     {
         let index = usize::from(place_of(event).mote);
         if index < self.operations.len()
-            && self.operations[index] == tally.operations
+            && self.operations[index] == board.tally().operations
             && are_sent(reports)
         {
             let now = Moment {
@@ -118,7 +115,7 @@ impl Costs {
             self.stamp(reports.len(), now);
             return Ok(());
         }
-        self.note_all(frames, world, event, number, times, None, tally, reports)
+        self.note_all(frames, world, event, number, times, None, board, reports)
     }
 
     /// A mote heard the frame with this number, and nothing is reported of it.
@@ -189,8 +186,8 @@ impl Costs {
         if boards.len() <= index {
             return;
         }
-        let tally = boards[index].tally();
-        let done = self.note_all(frames, world, event, number, times, heard, tally, reports);
+        let board = &boards[index];
+        let done = self.note_all(frames, world, event, number, times, heard, board, reports);
         self.unless(done);
     }
 
@@ -216,16 +213,16 @@ impl Costs {
         if boards.len() <= index {
             return Ok(());
         }
-        let tally = boards[index].tally();
-        if !reports.is_empty() || self.operations[index] != tally.operations {
-            return self.note_all(frames, world, event, number, times, None, tally, reports);
+        let board = &boards[index];
+        if !reports.is_empty() || self.operations[index] != board.tally().operations {
+            return self.note_all(frames, world, event, number, times, None, board, reports);
         }
         self.note_heard(frames, world, mote, event, None, NOTHING_TOLD, NO_WORK)
     }
 
     /// An event was applied that reports something or made operations.
     #[inline(never)]
-    pub fn note_all(
+    pub fn note_all<N: Nor>(
         &mut self,
         frames: &mut FrameCounter,
         world: &World,
@@ -233,7 +230,7 @@ impl Costs {
         number: u64,
         times: &Uptimes,
         heard: Option<HeardFrame>,
-        tally: &Tally,
+        board: &Metered<N>,
         reports: &[Report],
     ) -> Result<(), AllocError>
         ensures { KeepsFrames frames.old frames.new }
@@ -245,13 +242,13 @@ impl Costs {
         };
         self.stamp(reports.len(), now);
         let told = told_by(reports);
-        let work = self.note_work(mote, kind, tally, told.off, reports);
+        let work = self.note_work(mote, kind, board.tally(), told.off, reports);
         if !reports.is_empty() || kind == TICK {
             self.note_power(world, mote, event, now.ms, told, work);
         }
         self.note_brought(frames, world, mote, event, heard, told, work)?;
         if !reports.is_empty() {
-            self.note_kept(mote, &tally.pages, reports, now)?;
+            self.note_kept(mote, board, reports, now)?;
         }
         Ok(())
     }

@@ -1,10 +1,12 @@
 //! The watcher of a replay that counts what it is shown.
-ghost use Rattle.std.specs.Prelude.{◌≡◌, true, false};
+ghost use Rattle.std.specs.Prelude.{◌≡◌, true, false, map};
+ghost use Rattle.dg_meter.specs.Meters.{metered_device};
 ghost use Rattle.dg_rules.specs.Events.{mote_of, dt_of};
 ghost use Rattle.dg_events.specs.Kinds.{event_number};
 ghost use Rattle.dg_events.specs.Frames.{is_hearing};
 ghost use Rattle.dg_count.specs.Runs.{CountsEvent, TimesEvent, HasSeen};
 ghost use Rattle.dg_count.specs.Shown.{CountsFrames, IsNumberOf};
+ghost use Rattle.dg_count.specs.Runs.{NotesWholes};
 
 use crate::counter::Counter;
 use crate::frame_counting::{count_heard, count_sent};
@@ -40,6 +42,7 @@ impl Counter {
         ensures placed { self.new.placed ≡ self.old.placed }
         ensures times { TimesEvent self.old self.new event.now reports.now }
         ensures frames { CountsFrames self.old.frames self.new.frames world.now event.now reports.now }
+        ensures wholes { NotesWholes self.old self.new (map (metered_device N.device) boards.now) event.now reports.now }
     {
         self.events.note(event, TICK, mote, reports);
         self.times.note(self.placed, mote, dt, reports);
@@ -56,6 +59,8 @@ impl Counter {
             reports,
         );
         self.costs.unless(done);
+        self.wholes
+            .note(self.placed, mote, boards, reports, number, self.times.ms);
     }
 
     /// An event of this kind was applied that brings a mote the frame with this number, after `dt` milliseconds.
@@ -80,6 +85,7 @@ impl Counter {
         ensures placed { self.new.placed ≡ self.old.placed }
         ensures times { TimesEvent self.old self.new event.now reports.now }
         ensures frames { CountsFrames self.old.frames self.new.frames world.now event.now reports.now }
+        ensures wholes { NotesWholes self.old self.new (map (metered_device N.device) boards.now) event.now reports.now }
     {
         self.events.note(event, kind, mote, reports);
         self.times.note(self.placed, mote, dt, reports);
@@ -96,6 +102,8 @@ impl Counter {
                 boards,
                 reports,
             );
+            self.wholes
+                .note(self.placed, mote, boards, reports, number, self.times.ms);
             return;
         }
         let Some(heard) = count_heard(&mut self.frames, world, event, mote, frame, reports) else {
@@ -119,6 +127,7 @@ impl Counter {
         ensures placed { self.new.placed ≡ self.old.placed }
         ensures times { TimesEvent self.old self.new event.now reports.now }
         ensures frames { CountsFrames self.old.frames self.new.frames world.now event.now reports.now }
+        ensures wholes { NotesWholes self.old self.new (map (metered_device N.device) boards.now) event.now reports.now }
     {
         let place = place_of(event);
         self.events.note(event, place.kind, place.mote, reports);
@@ -136,6 +145,14 @@ impl Counter {
             reports,
         );
         self.costs.unless(done);
+        self.wholes.note(
+            self.placed,
+            place.mote,
+            boards,
+            reports,
+            number,
+            self.times.ms,
+        );
     }
 }
 
@@ -150,6 +167,9 @@ impl<N: Nor> Watcher<Metered<N>> for Counter {
         self.placed = motes;
         let done = self.costs.place(motes, used, boards);
         self.costs.unless(done);
+        if used.is_none() {
+            self.wholes.begin(motes, &self.costs.given);
+        }
     }
 
     fn taken(&mut self) {
