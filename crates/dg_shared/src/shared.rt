@@ -1,6 +1,5 @@
 //! What the motes of a world share.
-ghost use Rattle.std.specs.Prelude.{◌≡◌, ◌<◌};
-ghost use Rattle.dg_rules.specs.Sizes.{most_motes};
+ghost use Rattle.std.specs.Prelude.{◌≡◌};
 ghost use Rattle.dg_rules.specs.World.{World as RuleWorld, wide_at};
 ghost use Rattle.dg_rules.specs.Events.{knows};
 ghost use Rattle.dg_shared.specs.Shareds.{IsShared};
@@ -21,17 +20,20 @@ pub struct Shared {
 }
 
 impl Shared {
-    /// Whether a mote is wide.
+    /// Whether a mote is wide. A number that is no mote's counts as wide.
+    #[inline(always)]
     pub fn is_wide(&self, mote: u8) -> bool
-        requires { mote < most_motes }
         ensures { (w : RuleWorld) → IsShared self.now w → result ≡ wide_at w mote }
     {
-        !self.narrow[usize::from(mote)]
+        let mote = usize::from(mote);
+        if mote < self.narrow.len() {
+            return !self.narrow[mote];
+        }
+        true
     }
 
     /// Whether a mote knows the images of this number: a narrow one only those that its frames name, and golden.
     pub fn knows(&self, mote: u8, image: u8) -> bool
-        requires { mote < most_motes }
         ensures { (w : RuleWorld) → IsShared self.now w → knows (wide_at w mote) image ≡ result }
     {
         knows_by_width(self.is_wide(mote), image)

@@ -12,10 +12,6 @@ impl World {
     pub fn is_wide(&self, mote: u8) -> bool
         ensures { (boards : List Device) (w : RuleWorld) → IsWorld self.now boards w → result ≡ wide_at w mote }
     {
-        let mote = usize::from(mote);
-        if mote < self.shared.narrow.len() {
-            return !self.shared.narrow[mote];
-        }
-        true
+        self.shared.is_wide(mote)
     }
 }
