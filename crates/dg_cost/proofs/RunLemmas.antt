@@ -217,6 +217,7 @@ cost_shows asked c costs ran a b report text kept seen is =
       events = (seen table).1.events;
       times = (seen table).1.times;
       frames = (seen table).1.frames;
+      wholes = (seen table).1.wholes;
       motes = (seen table).1.motes;
       few = (seen table).1.few;
     }

@@ -82,15 +82,10 @@ fn look_at<N: Nor>(board: &mut Metered<N>) -> Option<Given> {
     let Ok(volume) = Volume::mount(board) else {
         return None;
     };
-    let kept = volume.kept_images();
-    for image in 0..kept.len() {
-        if let Some(kept) = kept[image] {
-            board.know_pages(image, kept.pages);
-        }
-    }
+    board.look();
     Some(Given {
         room: volume.room(),
-        kept,
+        kept: volume.kept_images(),
     })
 }
 

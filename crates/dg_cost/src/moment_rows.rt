@@ -1,12 +1,12 @@
 //! The rows of moments.
 
 use dg_cost_text::{Rows, What};
-use dg_count::Moments;
+use dg_count::{Moments, Wholes};
 use std::alloc::AllocError;
 
 /// The rows of when images became whole at a mote, by image, version and times.
-pub fn push_wholes(rows: &mut Rows, mote: u8, moments: &Moments) -> Result<(), AllocError> {
-    for (whole, at) in &moments.wholes {
+pub fn push_wholes(rows: &mut Rows, mote: u8, wholes: &Wholes) -> Result<(), AllocError> {
+    for (whole, at) in &wholes.moments {
         if whole.mote == mote {
             let what = What::Whole {
                 image: whole.image,

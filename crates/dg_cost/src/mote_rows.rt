@@ -15,7 +15,7 @@ use crate::frame_rows::frame_rows;
 use crate::moment_rows::{push_all_moments, push_wholes};
 use dg_base::Status;
 use dg_cost_text::{Counted, Moment, Rows, total_of};
-use dg_count::{Counter, EventPlace, Moments, MoteCost, SentBy, narrow, sent_by_each, share_of};
+use dg_count::{Counter, EventPlace, MoteCost, SentBy, Wholes, narrow, sent_by_each, share_of};
 use dg_events::{CAUSES, EVENTS, EventCounts, FrameCounts, SENT_KINDS, Uptime, Uptimes};
 use dg_meter::Share;
 use std::alloc::{AllocError, Global};
@@ -85,12 +85,12 @@ fn chip_rows(
     alloc: Global,
     mote: u8,
     cost: &MoteCost,
-    moments: &Moments,
+    wholes: &Wholes,
 ) -> Result<Rows, AllocError> {
     let mut rows = Rows::new(alloc);
     rows.sum("starts.copied", cost.starts_copied)?;
     push_chip(&mut rows, cost)?;
-    push_wholes(&mut rows, mote, moments)?;
+    push_wholes(&mut rows, mote, wholes)?;
     Ok(rows)
 }
 
@@ -104,7 +104,7 @@ fn mote_rows(
     frames: &FrameCounts,
     uptime: &Uptime,
     ms: u64,
-    moments: &Moments,
+    wholes: &Wholes,
 ) -> Result<Rows, AllocError>
     ensures counts { IfOk result (λ rows. HasCounts events.now (table_of_rows rows)) }
     ensures power { IfOk result (λ rows. HasRows (rows_of_power uptime.now ms) (table_of_rows rows)) }
@@ -117,7 +117,7 @@ fn mote_rows(
     push_starts(&mut rows, events)?;
     rows.append(failed_rows(alloc, cost)?)?;
     push_images(&mut rows, events)?;
-    rows.append(chip_rows(alloc, mote, cost, moments)?)?;
+    rows.append(chip_rows(alloc, mote, cost, wholes)?)?;
     Ok(rows)
 }
 
@@ -229,7 +229,7 @@ fn rows_of_motes(
         };
         let frames = counter.frames.at(mote);
         let uptime = times.at(mote);
-        let moments = &counter.costs.moments;
+        let wholes = &counter.wholes;
         let rows = mote_rows(
             alloc,
             narrow(mote),
@@ -239,7 +239,7 @@ fn rows_of_motes(
             &frames,
             &uptime,
             times.ms,
-            moments,
+            wholes,
         )?;
         motes.push(rows)?;
     }

@@ -19,8 +19,8 @@ pub record IsMomentOf (events : List Played) (at : Moment) : Type 0 where
   pub event : at.event ≡ count_all events
   pub ms : at.ms ≡ ms_of events
 
--- One of these events is at this moment. After it the mote keeps this version of the image whole, and a `have` line is reported of
--- it: the event changed how many of its pages are complete.
+-- One of these events is at this moment. After it the mote keeps this version of the image whole, and a `have` line is reported
+-- of it: the event changed how many of its pages are complete.
 pub record HadAt (mote image version : ℕ) (events : List Played) (at : Moment) : Type 0 where
   pub before : List Played
   pub event : Played
