@@ -127,8 +127,8 @@ impl Wholes {
 
     fn note_line<N: Nor>(&mut self, board: &Metered<N>, report: &Report, now: Moment)
         ensures { (events : List Played) (w : World) (mote : ℕ)
-            → Stands (metered_device N.device board.now).image (store_at w mote) → HaveTells mote (store_at w mote) report.now → LineTells w report.now events now → HasWholes self.old events
-            → HasWholes self.new events }
+            → Stands (metered_device N.device board.now).image (store_at w mote) → HaveTells mote (store_at w mote) report.now
+            → LineTells w report.now events now → HasWholes self.old events → HasWholes self.new events }
     {
         if let Report::Have {
             mote,
