@@ -1,11 +1,16 @@
-//! `deluge_rows` plays files of rows through `run`, and reports the rows with another outcome, and how many rows there were.
+//! `deluge_rows` plays files of rows through `run`, and reports the rows with another outcome, and how many rows there were. Then
+//! it checks what rows do not show.
 #![tactic(auto)]
 
-use dg_base::{MemSink, Source, Status, StepClock};
-use dg_link::FailLink;
-use dg_nor::Nor;
+mod files;
+
+use crate::files::check_all;
+use dg_base::{Clock, MemSink, Sink, Source, Status, StepClock};
+use dg_link::{FailLink, Link};
+use dg_nor::{Board, Nor};
 use dg_rows::{Runner, play};
-use std::alloc::Global;
+use dg_shell::Commands;
+use std::alloc::{AllocError, Global};
 use std::{env, fs};
 
 /// The program.
@@ -27,6 +32,25 @@ impl Runner for Deluge {
     }
 }
 
+impl Commands for Deluge {
+    fn names(&self, alloc: Global, words: &Vec<String>) -> Result<Vec<String>, AllocError> {
+        dg_cli::flash_names(alloc, words)
+    }
+
+    fn run<S: Source, K: Sink, L: Link, C: Clock>(
+        &self,
+        alloc: Global,
+        words: &Vec<String>,
+        input: &mut S,
+        out: &mut K,
+        boards: &mut Vec<Board>,
+        link: &mut L,
+        clock: &mut C,
+    ) -> Status {
+        dg_cli::run(alloc, words, input, out, boards, link, clock)
+    }
+}
+
 fn main(rt: HostRuntime) -> anyhow::Result<()> {
     for name in env::args(&rt)?.skip(1) {
         let text = fs::read_to_string(&rt, name.as_str())?;
@@ -34,5 +58,11 @@ fn main(rt: HostRuntime) -> anyhow::Result<()> {
         rt.print(tally.told.as_str())?;
         println!(rt; "{name}: {} rows, {} wrong", tally.rows, tally.wrong)?;
     }
+    let checks = check_all(&rt)?;
+    println!(rt;
+        "files: {} checks, {} wrong",
+        checks.right.saturating_add(checks.wrong),
+        checks.wrong
+    )?;
     Ok(())
 }

@@ -34,12 +34,16 @@ fn only_look(words: &[String]) -> bool {
     false
 }
 
+/// A chip for each of these files, or chips in memory where there are none. None where memory runs out.
+pub(crate) fn chips(rt: &HostRuntime, words: &[String], names: &[String]) -> Option<Vec<Board>> {
+    if names.is_empty() {
+        return boards_in_memory(rt);
+    }
+    boards_on_files(rt, words, names)
+}
+
 /// A chip on each of these files. None where memory runs out.
-pub(crate) fn boards_on_files(
-    rt: &HostRuntime,
-    words: &[String],
-    names: &[String],
-) -> Option<Vec<Board>> {
+fn boards_on_files(rt: &HostRuntime, words: &[String], names: &[String]) -> Option<Vec<Board>> {
     let mut boards = Vec::new(rt.alloc());
     for name in names {
         let before = length_at(rt, name.as_str());
@@ -78,7 +82,7 @@ fn tell_lengthened(rt: &HostRuntime, name: &str, before: u64) -> Result<(), Allo
 }
 
 /// A chip in memory for each mote that a script may have. None where memory runs out.
-pub(crate) fn boards_in_memory(rt: &HostRuntime) -> Option<Vec<Board>> {
+fn boards_in_memory(rt: &HostRuntime) -> Option<Vec<Board>> {
     let mut boards = Vec::new(rt.alloc());
     for _ in 0..MOST_MOTES {
         boards.push(Board::memory(rt.alloc()).ok()?).ok()?;

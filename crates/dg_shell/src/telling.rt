@@ -1,8 +1,8 @@
 //! What is written to standard error after a command ended.
-use crate::NOT_TEXT;
 use crate::finding::is_named_before;
 use crate::opening::begin_with;
 use crate::showing::shown_word;
+use crate::words::NOT_TEXT;
 use dg_base::Status;
 use dg_command::misuse;
 use dg_messages::{Causes, Input, Misuse, Output, Reads, message, told};
@@ -10,6 +10,7 @@ use dg_net::LinkCause;
 use dg_nor::FileFault;
 use std::alloc::AllocError;
 use std::io::{Read, Write};
+use std::process::ExitCode;
 
 /// The program.
 const PROGRAM: &str = "deluge";
@@ -125,4 +126,15 @@ fn place_of<'a>(names: &'a [String], ended: &Ended) -> &'a str {
         Some(chip) => names.get(chip).map_or("", |name| name.as_str()),
         None => "",
     }
+}
+
+/// How a program ends without memory for its words or its chips.
+pub(crate) fn without_memory(rt: &HostRuntime) -> ExitCode {
+    let _ = rt.eprintln("deluge: memory ran out; give the program more of it");
+    exit_code(Status::Memory)
+}
+
+/// How a program ends, by how its command ended.
+pub fn exit_code(status: Status) -> ExitCode {
+    ExitCode::from(status.code())
 }

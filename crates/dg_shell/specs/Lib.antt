@@ -1,0 +1,1 @@
+-- No definitions: its calls write to standard error, and open files.
