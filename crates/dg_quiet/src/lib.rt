@@ -135,21 +135,3 @@ fn is_over(noted: Option<u64>, quiet: u64, now: u64) -> bool
         Some(moment) => now.saturating_sub(moment) >= quiet,
     }
 }
-
-#[cfg(test)]
-mod tests {
-    use super::*;
-
-    #[test]
-    fn a_request_keeps_quiet_about_its_image(rt: HostRuntime) {
-        let mut windows = Windows::new();
-        windows.note_request(0, 1);
-        assert!(rt; !windows.may_ask(127_999, 1));
-        assert!(rt; windows.may_ask(128_000, 1));
-        assert!(rt; windows.may_ask(0, 6));
-
-        windows.note_packet(128_000, 1);
-        assert!(rt; !windows.may_ask(191_999, 1));
-        assert!(rt; windows.may_ask(192_000, 1));
-    }
-}

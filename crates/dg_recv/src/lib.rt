@@ -172,32 +172,3 @@ pub fn asking_ends()
         → ask_of (reception_after start word earlier) moment ≡ Ask.GiveUp
         → requests start word earlier ≡ most_requests }
 {}
-
-#[cfg(test)]
-mod tests {
-    use super::*;
-
-    #[test]
-    fn eight_requests_are_made(rt: HostRuntime) {
-        let all = Ask::Request(PageBits::all());
-        let mut asking = Asking::new(0, 513);
-        assert_eq!(rt; asking.next(1), Ask::Wait);
-        assert_eq!(rt; asking.next(2), all);
-        assert_eq!(rt; asking.next(1025), Ask::Wait);
-        assert_eq!(rt; asking.next(1026), all);
-        for now in [2050, 3074, 4098, 5122, 6146, 7170] {
-            assert_eq!(rt; asking.next(now), all);
-        }
-        assert_eq!(rt; asking.next(8194), Ask::GiveUp);
-    }
-
-    #[test]
-    fn a_packet_is_new_once(rt: HostRuntime) {
-        let mut asking = Asking::new(0, 0);
-        assert_eq!(rt; asking.accept(10, 3), Accept::New);
-        assert_eq!(rt; asking.accept(11, 3), Accept::Known);
-        assert!(rt; asking.got().has(3));
-        assert_eq!(rt; asking.got().count(), 1);
-        assert_eq!(rt; asking.next(1033), Ask::Wait);
-    }
-}

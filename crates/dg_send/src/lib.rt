@@ -126,32 +126,3 @@ pub fn serves_the_union()
         → serve_of o moment ≡ Serve.Send p → serve_of (after_next o moment) later ≡ Serve.Send q
         → moment + packet_gap ≤ later }
 {}
-
-#[cfg(test)]
-mod tests {
-    use super::*;
-
-    #[test]
-    fn requests_are_merged(rt: HostRuntime) {
-        let mut want = PageBits::none();
-        want.set(0);
-        want.set(1);
-        want.set(5);
-        let mut serving = Serving::new(0, want);
-        let mut more = PageBits::none();
-        more.set(1);
-        more.set(7);
-        serving.merge(&more);
-        assert_eq!(rt; serving.left(), 4);
-        for (now, serve) in [
-            (0, Serve::Send(0)),
-            (15, Serve::Wait),
-            (16, Serve::Send(1)),
-            (32, Serve::Send(5)),
-            (48, Serve::Send(7)),
-            (64, Serve::Done),
-        ] {
-            assert_eq!(rt; serving.next(now), serve, "at {now}");
-        }
-    }
-}

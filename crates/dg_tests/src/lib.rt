@@ -21,9 +21,13 @@ mod links;
 #[cfg(test)]
 mod outside;
 #[cfg(test)]
+mod packets;
+#[cfg(test)]
 mod signatures;
 #[cfg(test)]
 mod signed;
+#[cfg(test)]
+mod timers;
 #[cfg(test)]
 mod turns;
 #[cfg(test)]

@@ -194,25 +194,3 @@ pub fn suppression()
         → Contains (current_marks start word earlier) Heard }
     ensures once { (start word : ℕ) (calls : List Call) → sends (current_marks start word calls) ≤ 1 }
 {}
-
-#[cfg(test)]
-mod tests {
-    use super::*;
-
-    #[test]
-    fn an_equal_transmission_suppresses_one_interval(rt: HostRuntime) {
-        let mut timer = Trickle::new(0, 0);
-        timer.heard_same();
-        assert_eq!(rt; timer.tick(250, 0), Act::Quiet);
-        assert_eq!(rt; timer.tick(500, 7), Act::Expired);
-        assert_eq!(rt; timer.interval, 1000);
-        assert_eq!(rt; timer.fires_after, 507);
-
-        timer.heard_other(600, 3);
-        assert_eq!(rt; timer.interval, 500);
-        assert_eq!(rt; timer.begin, 600);
-        assert_eq!(rt; timer.fires_after, 253);
-        assert_eq!(rt; timer.tick(852, 0), Act::Nothing);
-        assert_eq!(rt; timer.tick(853, 0), Act::Send);
-    }
-}

@@ -2,7 +2,7 @@ use Rattle.std.proofs.Common.{ap, sym, ◌∙◌}
 use Rattle.std.proofs.lemmas.Bool.{true≢false}
 use Rattle.std.specs.FinSet as set
 use Rattle.dg_bits.proofs.SetLaws.{contains-none, contains-put}
-use Rattle.dg_send.proofs.tests.requests_are_merged.Goals as goal
+use Rattle.dg_tests.proofs.packets.requests_are_merged.Goals as goal
 
 -- the request asks for packet 5
 pub new-serving-requires : goal.new-serving-requires
