@@ -10,7 +10,4 @@ mod udp;
 pub use alone::MoteLink;
 pub use cause::LinkCause;
 pub use clock::SystemClock;
-pub use udp::UdpLink;
-
-#[cfg(test)]
-mod tests;
+pub use udp::{UdpLink, receive_datagram};

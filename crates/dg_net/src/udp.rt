@@ -186,8 +186,9 @@ pub(crate) fn is_sent(socket: &UdpSocket, to: SocketAddr, bytes: &[u8]) -> bool 
     }
 }
 
-// Receives a datagram, if one is there. A receive that is interrupted has received no datagram.
-pub(crate) fn receive_datagram(
+/// Receives a datagram, if one is there, and returns its length. The first 64 bytes of a longer one are kept. A receive that is
+/// interrupted has received no datagram.
+pub fn receive_datagram(
     socket: &UdpSocket,
     into: &mut [u8; LONGEST_FRAME],
 ) -> Result<Option<usize>, LinkFailed>

@@ -27,6 +27,8 @@ mod signatures;
 #[cfg(test)]
 mod signed;
 #[cfg(test)]
+mod sockets;
+#[cfg(test)]
 mod timers;
 #[cfg(test)]
 mod turns;

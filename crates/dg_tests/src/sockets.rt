@@ -1,11 +1,10 @@
 //! Sockets and the clock of this machine.
-ghost use Rattle.std.specs.Prelude.{◌<◌, ◌≤◌, length};
+ghost use Rattle.std.specs.Prelude.{◌≡◌, ◌<◌, ◌≤◌, length};
 ghost use Rattle.dg_base.specs.Sizes.{longest_frame};
 
-use crate::udp::{address, is_sent, receive_datagram};
-use crate::{MoteLink, SystemClock, UdpLink};
 use dg_base::{Clock, LONGEST_FRAME};
 use dg_link::{Link, LinkFailed, OpenFault};
+use dg_net::{LinkCause, MoteLink, SystemClock, UdpLink, receive_datagram};
 use std::alloc::Global;
 use std::net::{IpAddr, Ipv4Addr, Net, SocketAddr, UdpSocket};
 use std::process;
@@ -40,8 +39,7 @@ fn datagrams_come_to_their_mote(rt: HostRuntime) -> Result<(), Fail> {
     assert_eq!(rt; into[..5], b"hello"[..]);
     assert_eq!(rt; link.receive(1, &mut into)?, Some(0));
     let stranger = UdpSocket::bind(&rt, "127.0.0.1:0")?;
-    let mote = SocketAddr::new(IpAddr::V4(Ipv4Addr::new(127, 0, 0, 1)), port);
-    stranger.send_to(&[9; 65], mote)?;
+    stranger.send_to(&[9; 65], loopback(port))?;
     assert_eq!(rt; link.receive(0, &mut into)?, Some(LONGEST_FRAME));
     assert_eq!(rt; into, [9; LONGEST_FRAME]);
     let mut other = UdpLink::new(&rt, alloc);
@@ -50,6 +48,33 @@ fn datagrams_come_to_their_mote(rt: HostRuntime) -> Result<(), Fail> {
         Some(OpenFault::LinkFailed)
     );
     Ok(())
+}
+
+/// Receives at each of these motes so many times, and returns whether nothing came.
+fn nothing_comes<L: Link>(link: &mut L, motes: u16, turns: u32) -> Result<bool, LinkFailed>
+    requires { L.mote_count link.old ≡ motes }
+{
+    let mut into = [0; LONGEST_FRAME];
+    let mut nothing = true;
+    for _ in 0..turns {
+        for mote in 0..motes {
+            nothing = link.receive(mote, &mut into)?.is_none() && nothing;
+        }
+    }
+    Ok(nothing)
+}
+
+/// Sends a frame from a mote to itself so many times, and returns whether each was there at the next receive.
+fn frames_come<L: Link>(link: &mut L, turns: u32) -> Result<bool, LinkFailed>
+    requires { L.mote_count link.old ≡ 1 }
+{
+    let mut into = [0; LONGEST_FRAME];
+    let mut each = true;
+    for _ in 0..turns {
+        link.send(0, 0, b"hello")?;
+        each = link.receive(0, &mut into)? == Some(5) && each;
+    }
+    Ok(each)
 }
 
 /// Whether a frame arrives whole from one of sixteen motes at another.
@@ -98,16 +123,30 @@ fn motes_listen_at_the_loopback_address_alone(rt: HostRuntime) -> Result<(), Fai
     Ok(())
 }
 
+// A port of this machine.
+fn loopback(port: u16) -> SocketAddr {
+    SocketAddr::new(IpAddr::V4(Ipv4Addr::new(127, 0, 0, 1)), port)
+}
+
+// Nothing is sent to port 0.
 #[test]
-fn failed_calls_of_sockets_are_told(rt: HostRuntime) -> Result<(), Fail> {
+fn a_failed_send_is_told(rt: HostRuntime) -> Result<(), Fail> {
+    let alloc = rt.alloc();
+    let mut link = MoteLink::new(&rt, 0, 1);
+    link.open(alloc, 0, 1)?;
+    assert_eq!(rt; link.send(0, 0, b"hello"), Err(LinkFailed));
+    assert_eq!(rt; link.cause(), Some(LinkCause::Send { port: 0 }));
+    Ok(())
+}
+
+// What is sent to a port at which nobody listens is refused, and the next receive reports it.
+#[test]
+fn a_failed_receive_is_told(rt: HostRuntime) -> Result<(), Fail> {
     let mut into = [0; LONGEST_FRAME];
-    let socket = UdpSocket::bind(&rt, address(0))?;
-    // nothing is sent to port 0
-    assert!(rt; !is_sent(&socket, address(0), b"hello"));
-    let gone = UdpSocket::bind(&rt, address(0))?;
+    let socket = UdpSocket::bind(&rt, loopback(0))?;
+    let gone = UdpSocket::bind(&rt, loopback(0))?;
     let there = gone.local_addr()?;
     drop(gone);
-    // what is sent to a port at which nobody listens is refused, and the next receive reports it
     socket.connect(there)?;
     socket.send(b"hello")?;
     assert_eq!(rt; receive_datagram(&socket, &mut into), Err(LinkFailed));
@@ -120,12 +159,9 @@ fn a_turn_in_which_nothing_comes_lasts_16_milliseconds(rt: HostRuntime) -> Resul
     let mut clock = SystemClock::new(&rt);
     let port = free_port(&rt, alloc, process::id(rt.process()));
     let mut link = UdpLink::new(&rt, alloc);
-    let mut into = [0; LONGEST_FRAME];
     link.open(alloc, port, 1)?;
     let before = clock.read();
-    for _ in 0..50 {
-        assert_eq!(rt; link.receive(0, &mut into)?, None);
-    }
+    assert!(rt; nothing_comes(&mut link, 1, 50)?);
     let passed = clock.read().saturating_sub(before);
     // the last turn is not waited for; a machine under load makes the others longer
     assert!(rt; 784 <= passed && passed < 4_000, "{passed}");
@@ -138,15 +174,9 @@ fn a_turn_of_four_motes_is_as_long(rt: HostRuntime) -> Result<(), Fail> {
     let mut clock = SystemClock::new(&rt);
     let port = free_port(&rt, alloc, process::id(rt.process()));
     let mut link = UdpLink::new(&rt, alloc);
-    let mut into = [0; LONGEST_FRAME];
     link.open(alloc, port, 4)?;
     let before = clock.read();
-    for _ in 0..25 {
-        assert_eq!(rt; link.receive(0, &mut into)?, None);
-        assert_eq!(rt; link.receive(1, &mut into)?, None);
-        assert_eq!(rt; link.receive(2, &mut into)?, None);
-        assert_eq!(rt; link.receive(3, &mut into)?, None);
-    }
+    assert!(rt; nothing_comes(&mut link, 4, 25)?);
     let passed = clock.read().saturating_sub(before);
     // a hundred waits would be 1,584
     assert!(rt; 384 <= passed && passed < 1_500, "{passed}");
@@ -159,13 +189,9 @@ fn a_turn_in_which_a_frame_comes_does_not_wait(rt: HostRuntime) -> Result<(), Fa
     let mut clock = SystemClock::new(&rt);
     let port = free_port(&rt, alloc, process::id(rt.process()));
     let mut link = UdpLink::new(&rt, alloc);
-    let mut into = [0; LONGEST_FRAME];
     link.open(alloc, port, 1)?;
     let before = clock.read();
-    for _ in 0..50 {
-        link.send(0, 0, b"hello")?;
-        assert_eq!(rt; link.receive(0, &mut into)?, Some(5));
-    }
+    assert!(rt; frames_come(&mut link, 50)?);
     let passed = clock.read().saturating_sub(before);
     assert!(rt; passed < 700, "{passed}");
     Ok(())
@@ -177,13 +203,10 @@ fn turns_are_longer_where_nothing_came_for_a_second(rt: HostRuntime) -> Result<(
     let mut clock = SystemClock::new(&rt);
     let port = free_port(&rt, alloc, process::id(rt.process()));
     let mut link = UdpLink::new(&rt, alloc);
-    let mut into = [0; LONGEST_FRAME];
     link.open(alloc, port, 1)?;
     let began = Instant::now(&rt)?;
     let before = clock.read();
-    for _ in 0..84 {
-        assert_eq!(rt; link.receive(0, &mut into)?, None);
-    }
+    assert!(rt; nothing_comes(&mut link, 1, 84)?);
     let passed = clock.read().saturating_sub(before);
     // the clock reports what another one does
     let lasted = u64::try_from(began.elapsed(&rt)?.as_millis()).unwrap_or(0);
@@ -229,12 +252,9 @@ fn a_scaled_turn_is_as_much_shorter(rt: HostRuntime) -> Result<(), Fail> {
     let mut clock = SystemClock::scaled(&rt, 8);
     let port = free_port(&rt, alloc, process::id(rt.process()));
     let mut link = MoteLink::new(&rt, 0, 8);
-    let mut into = [0; LONGEST_FRAME];
     link.open(alloc, port, 1)?;
     let before = clock.read();
-    for _ in 0..50 {
-        assert_eq!(rt; link.receive(0, &mut into)?, None);
-    }
+    assert!(rt; nothing_comes(&mut link, 1, 50)?);
     let passed = clock.read().saturating_sub(before);
     // 49 turns of 2 ms, each of which the clock reports as 8 times as long; a machine under load makes them longer
     assert!(rt; 776 <= passed && passed < 32_000, "{passed}");
