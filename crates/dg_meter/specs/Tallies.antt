@@ -1,10 +1,12 @@
 -- How operations are counted: each once, with its bytes, in its part of the chip.
-use Rattle.std.specs.Prelude.{◌≡◌, ◌≢◌, ℕ, ◌/◌, Some, None}
+use Rattle.std.specs.Prelude.{◌≡◌, ◌≢◌, ◌⊎◌, ℕ, ◌/◌, Some, None}
 use Rattle.dg_nor.specs.Sizes.{sector_size}
+use Rattle.dg_slot.specs.Layout.{header_size}
 use Rattle.dg_meter.specs.Regions.{region_of}
 use Rattle.dg_meter.specs.Shares.{capped_sum, no_shares, share_noted}
 use Rattle.dg_meter.specs.declared.shares.Shares.{Shares}
 use Rattle.dg_meter.specs.declared.tally.Tally.{Tally}
+use Rattle.dg_meter.specs.declared.region.Region.TheVariants.{Head}
 use Rattle.dg_meter.specs.declared.tally.Kind.{Kind}
 use Rattle.dg_meter.specs.declared.tally.Kind.TheVariants.{Program, Erase}
 
@@ -37,3 +39,6 @@ pub record Programmed (at bytes : ℕ) (a b : Tally) : Type 0 where
   pub last : bytes ≢ sector_size
       → b.last ≡ Some (record { kind = Program; region = region_of (at / sector_size); sector = at / sector_size; bytes = bytes })
   pub erases : b.erases ≡ a.erases
+  -- a header that is written, and nothing else
+  pub header : region_of (at / sector_size) ≡ Head → bytes ≡ header_size → b.headers ≡ capped_sum a.headers 1
+  pub others : (region_of (at / sector_size) ≢ Head) ⊎ (bytes ≢ header_size) → b.headers ≡ a.headers

@@ -1,11 +1,14 @@
 //! How many pages slots have, as a meter knows it.
-ghost use Rattle.std.specs.Prelude.{◌≡◌, ◌%◌, ◌+◌, ◌-◌, ◌*◌, ◌<◌, ◌≤◌, ℕ, length, slice_index};
-ghost use Rattle.dg_nor.specs.Sizes.{sector_size, chip_size};
-ghost use Rattle.dg_meter.specs.Pages.{pages_at, AreOutside, Forgets, Learns};
+ghost use Rattle.std.specs.Prelude.{◌≡◌, ◌%◌, ◌+◌, ◌<◌, ◌≤◌, ℕ, List, length, IfOk};
+ghost use Rattle.dg_nor.specs.Sizes.{sectors, sector_size, chip_size};
+ghost use Rattle.dg_nor.specs.Chip.{programmed, erased};
+ghost use Rattle.dg_nor.specs.Device.{Took};
+ghost use Rattle.dg_nor.specs.Reads.{ReadEnds};
+ghost use Rattle.dg_meter.specs.Pages.{slots, header_sector, pages_at, ArePages, AreOutside};
 
-use crate::region::{FIRST_SLOT, SLOT_SECTORS};
 use crate::tally::SLOTS;
-use dg_nor::SECTOR_SIZE;
+use dg_nor::{Nor, SECTOR_SIZE, Stopped};
+use dg_slot::{FIRST_SLOT, SLOT_SECTORS};
 
 /// Where the number of pages is in a header.
 const HEADER_PAGES: u32 = 3;
@@ -26,8 +29,8 @@ pub(crate) fn slot_at(at: u32, count: usize) -> usize
 
 /// The slot whose header is in a sector, `SLOTS` where there is none.
 fn slot_of(sector: u32) -> usize
-    ensures here { result < 7 → sector ≡ 68 + 66 * result }
-    ensures others { (s : ℕ) → s < 7 → sector ≡ 68 + 66 * s → s ≡ result }
+    ensures here { result < slots → sector ≡ header_sector result }
+    ensures others { (s : ℕ) → s < slots → sector ≡ header_sector s → s ≡ result }
 {
     if sector < FIRST_SLOT || (sector - FIRST_SLOT) % SLOT_SECTORS != 0 {
         return SLOTS;
@@ -37,46 +40,52 @@ fn slot_of(sector: u32) -> usize
 
 /// The cell with the number of pages of a slot.
 pub(crate) fn pages_cell(slot: usize) -> u32
-    requires { slot < 7 }
+    requires { slot < slots }
     ensures { result ≡ pages_at slot }
 {
     SECTOR_SIZE * (FIRST_SLOT + SLOT_SECTORS * slot as u32) + HEADER_PAGES
 }
 
-/// The byte that is programmed there.
-pub(crate) fn byte_for(slot: usize, at: u32, bytes: &[u8]) -> u8
-    requires { AreOutside slot at (length bytes.now) }
-    ensures { slot < 7 → result ≡ slice_index bytes.now (pages_at slot - at) }
+/// Reads how many pages each slot has.
+pub(crate) fn read_pages<N: Nor>(chip: &mut N) -> Result<[u8; SLOTS], Stopped>
+    ensures ends { ReadEnds result (N.device chip.old) (N.device chip.new) }
+    ensures pages { IfOk result (λ known. ArePages known (N.device chip.new).image) }
+    ensures took { Took slots (N.device chip.old) (N.device chip.new) }
 {
-    if SLOTS <= slot {
-        return 0;
+    let mut known = [0; SLOTS];
+    for slot in 0..SLOTS {
+        let mut byte = [0];
+        chip.read(pages_cell(slot), &mut byte)?;
+        known[slot] = byte[0];
     }
-    bytes[(pages_cell(slot) - at) as usize]
+    Ok(known)
 }
 
-/// Forgets the number of a slot, and answers it.
+/// These bytes are programmed from `at` on.
 #[inline(always)]
-pub(crate) fn forget(known: &mut [u8], slot: usize) -> u8
-    requires { length known.old ≡ 7 }
-    ensures length { length known.new ≡ 7 }
-    ensures forgets { Forgets slot known.old known.new result }
+pub(crate) fn note_program(known: &mut [u8], at: u32, bytes: &[u8])
+    requires length { length known.old ≡ slots }
+    requires in_chip { at < chip_size }
+    requires in_sector { at % sector_size + length bytes.now ≤ sector_size }
+    ensures { (image : List ℕ) → length image ≡ chip_size → ArePages known.old image
+        → ArePages known.new (programmed image at bytes.now) }
 {
-    if SLOTS <= slot {
-        return 0;
-    }
-    let was = known[slot];
-    known[slot] = 0;
-    was
-}
-
-/// Notes the number of a slot.
-#[inline(always)]
-pub(crate) fn learn(known: &mut [u8], slot: usize, number: u8)
-    requires { length known.old ≡ 7 }
-    ensures length { length known.new ≡ 7 }
-    ensures learns { Learns slot known.old known.new number }
-{
+    let slot = slot_at(at, bytes.len());
     if slot < SLOTS {
-        known[slot] = number;
+        known[slot] &= bytes[(pages_cell(slot) - at) as usize];
+    }
+}
+
+/// A sector is erased.
+#[inline(always)]
+pub(crate) fn note_erase(known: &mut [u8], sector: u32)
+    requires length { length known.old ≡ slots }
+    requires in_chip { sector < sectors }
+    ensures { (image : List ℕ) → length image ≡ chip_size → ArePages known.old image
+        → ArePages known.new (erased image sector) }
+{
+    let slot = slot_at(sector * SECTOR_SIZE, SECTOR_SIZE as usize);
+    if slot < SLOTS {
+        known[slot] = u8::MAX;
     }
 }

@@ -4,11 +4,11 @@ ghost use Rattle.dg_words.specs.Cells.{part};
 ghost use Rattle.dg_nor.specs.Sizes.{sectors, sector_size, chip_size};
 ghost use Rattle.dg_nor.specs.Chip.{programmed, erased, CutProgram, CutErase};
 ghost use Rattle.dg_nor.specs.Device.{Ran, Halts, Took, taken_more};
-ghost use Rattle.dg_meter.specs.Pages.{KnowsPages};
+ghost use Rattle.dg_meter.specs.Pages.{slots, ArePages};
 
-use crate::known::{byte_for, forget, learn, pages_cell, slot_at};
+use crate::known::{note_erase, note_program, read_pages};
 use crate::tally::{SLOTS, Tally};
-use dg_nor::{Nor, SECTOR_SIZE, Stopped};
+use dg_nor::{Nor, Stopped};
 
 /// A device over another one, to which it passes every call. It counts the programs and erases that are made, and knows how many
 /// pages slots have.
@@ -16,26 +16,33 @@ use dg_nor::{Nor, SECTOR_SIZE, Stopped};
 pub struct Metered<N: Nor> {
     inner: N,
     tally: Tally,
-    /// How many pages each slot has by its header, 0 where that is not known.
+    /// How many pages each slot has by its header, unless the chip is stopped.
     known: [u8; SLOTS],
-    ghost right: { KnowsPages known (N.device inner).image },
+    ghost right: { (N.device inner).stopped ≡ false → ArePages known (N.device inner).image },
 }
 
 impl<N: Nor> Metered<N> {
-    ghost use Rattle.std.specs.Prelude.{◌≢◌, slice_index};
+    ghost use Rattle.std.specs.Prelude.{◌⊎◌, slice_index};
+    ghost use Rattle.dg_nor.specs.Reads.{Looked, ReadStopped};
     ghost use Rattle.dg_meter.specs.Meters.{chip_of, tally_of};
     ghost use Rattle.dg_meter.specs.Tallies.{NoOperations};
     ghost use Rattle.dg_meter.specs.Pages.{pages_at};
 
-    /// Counts from now on.
-    pub fn new(inner: N) -> Metered<N>
-        ensures inner { chip_of result ≡ inner }
+    /// Counts from now on. It reads from the chip how many pages each slot has.
+    pub fn new(mut inner: N) -> Metered<N>
+        ensures reads { Looked (N.device inner) (N.device (chip_of result))
+            ⊎ ReadStopped (N.device inner) (N.device (chip_of result)) }
+        ensures took { Took slots (N.device inner) (N.device (chip_of result)) }
         ensures none { NoOperations (tally_of result) }
     {
+        let known = match read_pages(&mut inner) {
+            Ok(known) => known,
+            Err(Stopped) => [0; SLOTS],
+        };
         Metered {
             inner,
             tally: Tally::none(),
-            known: [0; SLOTS],
+            known,
         }
     }
 
@@ -46,34 +53,15 @@ impl<N: Nor> Metered<N> {
         &self.tally
     }
 
-    /// How many pages a slot has by its header, 0 where that is not known.
+    /// How many pages a slot has by its header, unless the chip is stopped.
     pub fn pages(&self, slot: usize) -> u8
-        ensures { result ≢ 0 → slice_index (N.device (chip_of self.now)).image (pages_at slot) ≡ result }
+        ensures { slot < slots → (N.device (chip_of self.now)).stopped ≡ false
+            → slice_index (N.device (chip_of self.now)).image (pages_at slot) ≡ result }
     {
         if SLOTS <= slot {
             return 0;
         }
         self.known[slot]
-    }
-
-    /// Reads how many pages each slot has. A chip that stops leaves the rest unknown.
-    pub fn look(&mut self)
-        ensures { tally_of self.new ≡ tally_of self.old }
-    {
-        for slot in 0..SLOTS {
-            self.look_at(slot);
-        }
-    }
-
-    fn look_at(&mut self, slot: usize)
-        requires { slot < 7 }
-        ensures { tally_of self.new ≡ tally_of self.old }
-    {
-        let mut byte = [0];
-        forget(&mut self.known, slot);
-        if self.inner.read(pages_cell(slot), &mut byte).is_ok() {
-            learn(&mut self.known, slot, byte[0]);
-        }
     }
 }
 
@@ -103,6 +91,7 @@ impl<N: Nor> Nor for Metered<N> {
         self.inner.read(at, into)
     }
 
+    #[inline(always)]
     fn program(&mut self, at: u32, bytes: &[u8]) -> Result<(), Stopped>
         requires some { 0 < length bytes.now }
         requires in_chip { at < chip_size }
@@ -121,10 +110,8 @@ impl<N: Nor> Nor for Metered<N> {
         ensures counted { OnOk result (Programmed at (length bytes.now) (tally_of self.old) (tally_of self.new)) }
         ensures uncounted { OnErr result (tally_of self.new ≡ tally_of self.old) }
     {
-        let slot = slot_at(at, bytes.len());
-        let was = forget(&mut self.known, slot);
         self.inner.program(at, bytes)?;
-        learn(&mut self.known, slot, was & byte_for(slot, at, bytes));
+        note_program(&mut self.known, at, bytes);
         self.tally.program(at, bytes);
         Ok(())
     }
@@ -144,10 +131,8 @@ impl<N: Nor> Nor for Metered<N> {
         ensures counted { OnOk result (Erased sector (tally_of self.old) (tally_of self.new)) }
         ensures uncounted { OnErr result (tally_of self.new ≡ tally_of self.old) }
     {
-        let slot = slot_at(sector * SECTOR_SIZE, SECTOR_SIZE as usize);
-        forget(&mut self.known, slot);
         self.inner.erase(sector)?;
-        learn(&mut self.known, slot, u8::MAX);
+        note_erase(&mut self.known, sector);
         self.tally.erase(sector);
         Ok(())
     }

@@ -2,14 +2,7 @@
 ghost use Rattle.std.specs.Prelude.{◌≡◌};
 ghost use Rattle.dg_meter.specs.Regions.{region_of, slot_part};
 
-/// The first sector of program memory: before it are the ledger and the control sectors.
-const FIRST_PROGRAM: u32 = 3;
-
-/// The first sector of slots, which is the header of the first one.
-pub(crate) const FIRST_SLOT: u32 = 68;
-
-/// The sectors of a slot: its header, and a sector for each page.
-pub(crate) const SLOT_SECTORS: u32 = 66;
+use dg_slot::{FIRST_SLOT, PROGRAM_SECTOR, SLOT_SECTORS};
 
 /// A part of a chip.
 #[derive(Clone, Copy, Debug, PartialEq, Eq)]
@@ -29,17 +22,18 @@ pub const REGIONS: usize = 5;
 
 impl Region {
     /// The part that a sector belongs to.
+    #[inline(always)]
     pub fn of(sector: u32) -> Region
         ensures { result ≡ region_of sector }
     {
-        if sector == 0 {
-            Region::Ledger
-        } else if sector < FIRST_PROGRAM {
-            Region::Control
-        } else if sector < FIRST_SLOT {
-            Region::Program
-        } else {
+        if FIRST_SLOT <= sector {
             slot_part(sector - FIRST_SLOT)
+        } else if sector == 0 {
+            Region::Ledger
+        } else if sector < PROGRAM_SECTOR {
+            Region::Control
+        } else {
+            Region::Program
         }
     }
 }

@@ -1,17 +1,17 @@
 //! The operations that were made on a chip.
-ghost use Rattle.std.specs.Prelude.{◌≡◌, ◌≢◌, length};
+ghost use Rattle.std.specs.Prelude.{◌≡◌, ◌≢◌, length, Some};
 ghost use Rattle.dg_nor.specs.Sizes.{sector_size};
+ghost use Rattle.dg_meter.specs.Shares.{capped_sum};
+ghost use Rattle.dg_meter.specs.declared.tally.Kind.TheVariants.{Program};
 ghost use Rattle.dg_meter.specs.Tallies.{Erased, Programmed, NoOperations, shares_of};
 
 use crate::region::Region;
 use crate::shares::Shares;
 use dg_nor::SECTOR_SIZE;
+use dg_slot::HEADER_SIZE;
 
 /// How many slots a chip has.
-pub const SLOTS: usize = 7;
-
-/// The bytes of a header that are programmed as a slot is taken.
-const HEADER: usize = 10;
+pub const SLOTS: usize = dg_object::SLOTS as usize;
 
 /// The kind of an operation.
 #[derive(Clone, Copy, Debug, PartialEq, Eq)]
@@ -83,6 +83,7 @@ impl Tally {
 
     /// A program was made. One of a whole sector is not counted: it is what a fuse leaves of an erase that it interrupts,
     /// and that erase was counted.
+    #[inline(never)]
     pub fn program(&mut self, at: u32, bytes: &[u8])
         ensures { Programmed at (length bytes.now) self.old self.new }
     {
@@ -91,16 +92,44 @@ impl Tally {
         }
         let sector = at / SECTOR_SIZE;
         let region = Region::of(sector);
+        if region != Region::Page {
+            self.program_outside_pages(at, bytes.len());
+            return;
+        }
+        self.programs.note(Region::Page, bytes.len());
+        self.note_program(region, sector, bytes.len());
+    }
+
+    /// A program was made outside the pages of slots, where few are made.
+    #[inline(never)]
+    fn program_outside_pages(&mut self, at: u32, bytes: usize)
+        requires { bytes ≢ sector_size }
+        ensures { Programmed at bytes self.old self.new }
+    {
+        let sector = at / SECTOR_SIZE;
+        let region = Region::of(sector);
+        if region == Region::Head && bytes == HEADER_SIZE {
+            self.headers = self.headers.saturating_add(1);
+        }
+        self.programs.note(region, bytes);
+        self.note_program(region, sector, bytes);
+    }
+
+    /// The last operation was a program.
+    #[inline(always)]
+    fn note_program(&mut self, region: Region, sector: u32, bytes: usize)
+        ensures operations { self.new.operations ≡ capped_sum self.old.operations 1 }
+        ensures last { self.new.last ≡ Some (record { kind = Program; region = region; sector = sector; bytes = bytes }) }
+        ensures programs { self.new.programs ≡ self.old.programs }
+        ensures erases { self.new.erases ≡ self.old.erases }
+        ensures headers { self.new.headers ≡ self.old.headers }
+    {
         self.operations = self.operations.saturating_add(1);
-        self.programs.note(region, bytes.len());
         self.last = Some(Operation {
             kind: Kind::Program,
             region,
             sector,
-            bytes: bytes.len(),
+            bytes,
         });
-        if region == Region::Head && bytes.len() == HEADER {
-            self.headers = self.headers.saturating_add(1);
-        }
     }
 }
