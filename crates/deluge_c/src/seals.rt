@@ -8,7 +8,7 @@ ghost use Rattle.dg_volume.specs.Sizes.{images};
 ghost use Rattle.dg_volume.specs.Store.{Store, held};
 ghost use Rattle.dg_volume.specs.Stands.{Stands, IsNoVolume};
 ghost use Rattle.dg_volume.specs.Trails.{sealing_trail};
-ghost use Rattle.dg_plan.specs.Packets.{standing, IsElsewhere, IsSealed};
+ghost use Rattle.dg_plan.specs.Packets.{its_page, IsElsewhere, IsSealed};
 ghost use Rattle.deluge_c.specs.Answers.{done};
 ghost use Rattle.deluge_c.specs.Plans.{AreActOf, BeginActOf, page_name};
 
@@ -29,8 +29,8 @@ pub extern "C" fn deluge_plan_seal(
     count: &mut usize,
 ) -> u32
     ensures planned { result ≡ done → (s : Store) → Stands chip.now s
-        → (h : Held) × IsSealed (page_name image version page) h (standing chip.now (page_name image version page)) s
-        × AreActOf (sealing_trail s image h (standing chip.now (page_name image version page))) chip.now commands.new bytes.new
+        → (h : Held) × IsSealed (page_name image version page) h (its_page chip.now (page_name image version page)) s
+        × AreActOf (sealing_trail s image h (its_page chip.now (page_name image version page))) chip.now commands.new bytes.new
         count.new }
     ensures length { (result ≡ LENGTH) ↔ (length chip.now ≢ chip_size) }
     ensures range { result ≡ RANGE → images ≤ image }
@@ -40,11 +40,11 @@ pub extern "C" fn deluge_plan_seal(
     ensures not_next { result ≡ NOT_NEXT → (s : Store) (h : Held) → Stands chip.now s → held s image ≡ Some h
         → (next : ℕ) × IsElsewhere (page_name image version page) next h }
     ensures bad { result ≡ CHECK → (s : Store) (h : Held) → Stands chip.now s → held s image ≡ Some h
-        → crc_of (standing chip.now (page_name image version page)) ≢ kept_crc h }
+        → crc_of (its_page chip.now (page_name image version page)) ≢ kept_crc h }
     ensures unfit { result ≡ UNFIT → (s : Store) (h : Held) → Stands chip.now s → held s image ≡ Some h
-        → (page ≡ 0) × (may_seal image h (standing chip.now (page_name image version page)) ≡ false) }
+        → (page ≡ 0) × (may_seal image h (its_page chip.now (page_name image version page)) ≡ false) }
     ensures room { result ≡ ROOM → (s : Store) (h : Held) → Stands chip.now s → held s image ≡ Some h → (count.new ≡ 0)
-        ⊎ BeginActOf (sealing_trail s image h (standing chip.now (page_name image version page))) chip.now commands.new
+        ⊎ BeginActOf (sealing_trail s image h (its_page chip.now (page_name image version page))) chip.now commands.new
         bytes.new count.new }
     ensures nothing { result ≢ done → result ≢ ROOM → count.new ≡ 0 }
 {
@@ -87,8 +87,8 @@ fn plan_seal(
 ) -> Result<(), ActFault<SealFault>>
     requires { length chip.now ≡ chip_size }
     ensures planned { OnOk result ((s : Store) → Stands chip.now s
-        → (h : Held) × IsSealed name h (standing chip.now name) s
-        × AreActOf (sealing_trail s name.image h (standing chip.now name)) chip.now commands.new bytes.new count.new) }
+        → (h : Held) × IsSealed name h (its_page chip.now name) s
+        × AreActOf (sealing_trail s name.image h (its_page chip.now name)) chip.now commands.new bytes.new count.new) }
     ensures range { result ≡ Err ActFault.OutOfRange → images ≤ name.image }
     ensures no_volume { result ≡ Err ActFault.NotAVolume → IsNoVolume chip.now }
     ensures not_kept { result ≡ Err (ActFault.Act SealFault.NotKept) → (s : Store) (h : Held) → Stands chip.now s
@@ -96,12 +96,12 @@ fn plan_seal(
     ensures not_next { (next : ℕ) → result ≡ Err (ActFault.Act (SealFault.NotNext next)) → (s : Store) (h : Held)
         → Stands chip.now s → held s name.image ≡ Some h → IsElsewhere name next h }
     ensures bad { (kept found : ℕ) → result ≡ Err (ActFault.Act (SealFault.Bad kept found)) → (s : Store) (h : Held)
-        → Stands chip.now s → held s name.image ≡ Some h → crc_of (standing chip.now name) ≢ kept_crc h }
+        → Stands chip.now s → held s name.image ≡ Some h → crc_of (its_page chip.now name) ≢ kept_crc h }
     ensures unfit { result ≡ Err (ActFault.Act SealFault.Unfit) → (s : Store) (h : Held) → Stands chip.now s
-        → held s name.image ≡ Some h → (name.page ≡ 0) × (may_seal name.image h (standing chip.now name) ≡ false) }
+        → held s name.image ≡ Some h → (name.page ≡ 0) × (may_seal name.image h (its_page chip.now name) ≡ false) }
     ensures room { result ≡ Err (ActFault.Act SealFault.Stopped) → (s : Store) (h : Held) → Stands chip.now s
         → held s name.image ≡ Some h
-        → BeginActOf (sealing_trail s name.image h (standing chip.now name)) chip.now commands.new bytes.new count.new }
+        → BeginActOf (sealing_trail s name.image h (its_page chip.now name)) chip.now commands.new bytes.new count.new }
 {
     let mut plan = Plan::new(chip, commands, bytes);
     let told = seal(&mut plan, name);

@@ -28,7 +28,7 @@ use Rattle.dg_volume.specs.Acts.{Stops}
 use Rattle.dg_volume.specs.declared.volume.Kept.{Kept}
 use Rattle.dg_volume.specs.declared.volume.Volume.{Volume}
 use Rattle.dg_plan.specs.declared.pages.PageName.{PageName}
-use Rattle.dg_plan.specs.Packets.{sector_named, standing, IsSealed}
+use Rattle.dg_plan.specs.Packets.{sector_named, its_page, IsSealed}
 use Rattle.dg_plan.specs.declared.plan.Plan.{Plan}
 use Rattle.dg_plan.specs.Plans.{planned, plan_device}
 use Rattle.dg_plan.specs.Acts.{IsPlanOf}
@@ -94,7 +94,7 @@ PutPage = (c : List ℕ) (k : ℕ) (got : Numbers) (ps : Packets) → length c �
 pub record IsReady (c : List ℕ) (j : PageJob) (name : PageName) (h : Held) : Type 0 where
   pub packets_there : Packets
   pub is_job : IsJob c j h packets_there
-  pub page : page_from packets_there ≡ standing c name
+  pub page : page_from packets_there ≡ its_page c name
   pub image : (outline_of_slot (slot_of j)).image ≡ name.image
 
 pub ready : (all_put : AllPut) (put_page : PutPage) (c : List ℕ) (o : OpenSlot) (j : PageJob) (got : Numbers) (name : PageName) (h : Held) → length c ≡ chip_size → name.image < images → name.page < most_pages → slot_of j ≡ o → got ≡ below packets → Resumes o got j
@@ -115,30 +115,30 @@ ready all_put put_page c o j got name h whole known few slot every resumes image
 
 -- ---- a chip that was only read before
 
-same_page : (old mid : Plan) (name : PageName) → Looked (plan_device old) (plan_device mid) → standing (planned mid) name ≡ standing (planned old) name
-same_page old mid name looked = ap (λ (c : List ℕ). standing c name) looked.same_image
+same_page : (old mid : Plan) (name : PageName) → Looked (plan_device old) (plan_device mid) → its_page (planned mid) name ≡ its_page (planned old) name
+same_page old mid name looked = ap (λ (c : List ℕ). its_page c name) looked.same_image
 
 abbrev pub SealedIn : PageName → Store → (mid new : Plan) → List ℕ → Type 0
 SealedIn name s mid new p =
     (h : Held) × IsSealed name h p s × Ran (operations (sealing_trail s name.image h p)) (plan_device mid) (plan_device new)
     × Stands (planned new) (last (sealing_trail s name.image h p))
 
-pub sealed_before : (old mid new : Plan) (name : PageName) (s : Store) → Looked (plan_device old) (plan_device mid) → SealedIn name s mid new (standing (planned mid) name)
-    → (h : Held) × IsSealed name h (standing (planned old) name) s × IsPlanOf (sealing_trail s name.image h (standing (planned old) name)) old new
+pub sealed_before : (old mid new : Plan) (name : PageName) (s : Store) → Looked (plan_device old) (plan_device mid) → SealedIn name s mid new (its_page (planned mid) name)
+    → (h : Held) × IsSealed name h (its_page (planned old) name) s × IsPlanOf (sealing_trail s name.image h (its_page (planned old) name)) old new
 sealed_before old mid new name s looked x =
     let y = subst (SealedIn name s mid new) (same_page old mid name looked) x in
-    (y.0, y.1, plan_by (sealing_trail s name.image y.0 (standing (planned old) name)) old new y.3 (looked_ran looked y.2))
+    (y.0, y.1, plan_by (sealing_trail s name.image y.0 (its_page (planned old) name)) old new y.3 (looked_ran looked y.2))
 
-pub bad_before : (old mid : Plan) (name : PageName) (h : Held) (kept found : ℕ) → Looked (plan_device old) (plan_device mid) → (kept ≡ kept_crc h) × (found ≡ crc_of (standing (planned mid) name)) × (found ≢ kept)
-    → (kept ≡ kept_crc h) × (found ≡ crc_of (standing (planned old) name)) × (found ≢ kept)
+pub bad_before : (old mid : Plan) (name : PageName) (h : Held) (kept found : ℕ) → Looked (plan_device old) (plan_device mid) → (kept ≡ kept_crc h) × (found ≡ crc_of (its_page (planned mid) name)) × (found ≢ kept)
+    → (kept ≡ kept_crc h) × (found ≡ crc_of (its_page (planned old) name)) × (found ≢ kept)
 bad_before old mid name h kept found looked x = (x.0, x.1 ∙ ap crc_of (same_page old mid name looked), x.2)
 
-pub unfit_before : (old mid : Plan) (name : PageName) (h : Held) → Looked (plan_device old) (plan_device mid) → (name.page ≡ 0) × (may_seal name.image h (standing (planned mid) name) ≡ false)
-    → (name.page ≡ 0) × (may_seal name.image h (standing (planned old) name) ≡ false)
+pub unfit_before : (old mid : Plan) (name : PageName) (h : Held) → Looked (plan_device old) (plan_device mid) → (name.page ≡ 0) × (may_seal name.image h (its_page (planned mid) name) ≡ false)
+    → (name.page ≡ 0) × (may_seal name.image h (its_page (planned old) name) ≡ false)
 unfit_before old mid name h looked x = (x.0, subst (λ (p : List ℕ). may_seal name.image h p ≡ false) (same_page old mid name looked) x.1)
 
-pub stopped_before : (old mid new : Plan) (name : PageName) (s : Store) (h : Held) → Looked (plan_device old) (plan_device mid) → Stops (sealing_trail s name.image h (standing (planned mid) name)) (plan_device mid) (plan_device new)
-    → Stops (sealing_trail s name.image h (standing (planned old) name)) (plan_device old) (plan_device new)
+pub stopped_before : (old mid new : Plan) (name : PageName) (s : Store) (h : Held) → Looked (plan_device old) (plan_device mid) → Stops (sealing_trail s name.image h (its_page (planned mid) name)) (plan_device mid) (plan_device new)
+    → Stops (sealing_trail s name.image h (its_page (planned old) name)) (plan_device old) (plan_device new)
 stopped_before old mid new name s h looked x =
     looked_halted looked (subst (λ (p : List ℕ). Stops (sealing_trail s name.image h p) (plan_device mid) (plan_device new)) (same_page old mid name looked) x)
 

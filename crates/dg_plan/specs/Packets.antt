@@ -16,8 +16,8 @@ abbrev pub sector_named : PageName → ℕ
 sector_named name = page_sector name.image name.page
 
 -- the page in its sector
-abbrev pub standing : List ℕ → PageName → List ℕ
-standing c name = page_in c (sector_named name)
+abbrev pub its_page : List ℕ → PageName → List ℕ
+its_page c name = page_in c (sector_named name)
 
 -- This version of an image is kept up to this page, which is its next one.
 pub record IsNext (name : PageName) (h : Held) : Type 0 where

@@ -22,14 +22,9 @@ pub use injections::inject;
 pub use laws::a_list_is_carried_out_or_not;
 pub use mounting::ActFault;
 pub use orders::order;
-pub use packets::{PacketFault, packet};
+pub use packets::{PacketFault, packet, put_packet};
 pub use pages::PageName;
 pub use plan::Plan;
 pub use seals::{SealFault, seal};
 pub use starts::start;
 pub use takes::take;
-
-#[cfg(test)]
-mod fault_tests;
-#[cfg(test)]
-mod tests;

@@ -93,7 +93,7 @@ pub fn packet(
 }
 
 /// The same on any chip, for a packet that is missing.
-pub(crate) fn put_packet<N: Nor>(
+pub fn put_packet<N: Nor>(
     nor: &mut N,
     name: PageName,
     got: PageBits<PACKETS>,

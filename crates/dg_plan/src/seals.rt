@@ -13,7 +13,7 @@ ghost use Rattle.dg_volume.specs.Trails.{sealing_trail};
 ghost use Rattle.dg_volume.specs.Acts.{Stops};
 ghost use Rattle.dg_plan.specs.Plans.{planned, lists_of, chip_of, plan_device};
 ghost use Rattle.dg_plan.specs.Acts.{IsPlanOf};
-ghost use Rattle.dg_plan.specs.Packets.{standing, IsNext, IsElsewhere, IsSealed};
+ghost use Rattle.dg_plan.specs.Packets.{its_page, IsNext, IsElsewhere, IsSealed};
 
 use crate::mounting::{ActFault, mount};
 use crate::pages::PageName;
@@ -43,8 +43,8 @@ pub enum SealFault {
 /// what is kept of it.
 pub fn seal(plan: &mut Plan<'_>, name: PageName) -> Result<(), ActFault<SealFault>>
     ensures planned { OnOk result ((s : Store) → Stands (planned plan.old) s
-        → (h : Held) × IsSealed name h (standing (planned plan.old) name) s
-        × IsPlanOf (sealing_trail s name.image h (standing (planned plan.old) name)) plan.old plan.new) }
+        → (h : Held) × IsSealed name h (its_page (planned plan.old) name) s
+        × IsPlanOf (sealing_trail s name.image h (its_page (planned plan.old) name)) plan.old plan.new) }
     ensures same_lists { lists_of plan.new ≡ lists_of plan.old }
     // the plan holds the chip that was handed in
     ensures same_chip { chip_of plan.new ≡ chip_of plan.old }
@@ -57,16 +57,16 @@ pub fn seal(plan: &mut Plan<'_>, name: PageName) -> Result<(), ActFault<SealFaul
         → Stands (planned plan.old) s → held s name.image ≡ Some h → IsElsewhere name next h }
     ensures bad { (kept found : ℕ) → result ≡ Err (ActFault.Act (SealFault.Bad kept found)) → (s : Store) (h : Held)
         → Stands (planned plan.old) s → held s name.image ≡ Some h
-        → (kept ≡ kept_crc h) × (found ≡ crc_of (standing (planned plan.old) name)) × (found ≢ kept) }
+        → (kept ≡ kept_crc h) × (found ≡ crc_of (its_page (planned plan.old) name)) × (found ≢ kept) }
     ensures unfit { result ≡ Err (ActFault.Act SealFault.Unfit) → (s : Store) (h : Held)
         → Stands (planned plan.old) s → held s name.image ≡ Some h
-        → (name.page ≡ 0) × (may_seal name.image h (standing (planned plan.old) name) ≡ false) }
+        → (name.page ≡ 0) × (may_seal name.image h (its_page (planned plan.old) name) ≡ false) }
     // what is refused leaves the plan unchanged
     ensures looked { (e : ActFault SealFault) → result ≡ Err e → e ≢ ActFault.Unread → e ≢ ActFault.Act SealFault.Stopped
         → Looked (plan_device plan.old) (plan_device plan.new) }
     ensures stopped { result ≡ Err (ActFault.Act SealFault.Stopped) → (s : Store) (h : Held) → Stands (planned plan.old) s
         → held s name.image ≡ Some h
-        → Stops (sealing_trail s name.image h (standing (planned plan.old) name)) (plan_device plan.old) (plan_device plan.new) }
+        → Stops (sealing_trail s name.image h (its_page (planned plan.old) name)) (plan_device plan.old) (plan_device plan.new) }
 {
     if name.image >= IMAGES as u8 {
         return Err(ActFault::OutOfRange);
@@ -87,10 +87,10 @@ fn seal_next<N: Nor>(nor: &mut N, mut volume: Volume, name: PageName) -> Result<
     requires mounted { IsMounted (N.device nor.old).image volume }
     requires free { NothingLent volume }
     ensures sealed { OnOk result ((s : Store) → Mounted (N.device nor.old).image volume s
-        → (h : Held) × IsSealed name h (standing (N.device nor.old).image name) s
-        × Ran (operations (sealing_trail s name.image h (standing (N.device nor.old).image name))) (N.device nor.old)
+        → (h : Held) × IsSealed name h (its_page (N.device nor.old).image name) s
+        × Ran (operations (sealing_trail s name.image h (its_page (N.device nor.old).image name))) (N.device nor.old)
         (N.device nor.new)
-        × Stands (N.device nor.new).image (last (sealing_trail s name.image h (standing (N.device nor.old).image name)))) }
+        × Stands (N.device nor.new).image (last (sealing_trail s name.image h (its_page (N.device nor.old).image name)))) }
     ensures same_reference { (N.device nor.new).references ≡ (N.device nor.old).references }
     ensures not_kept { result ≡ Err SealFault.NotKept → (s : Store) (h : Held) → Mounted (N.device nor.old).image volume s
         → held s name.image ≡ Some h → h.version ≢ name.version }
@@ -98,14 +98,14 @@ fn seal_next<N: Nor>(nor: &mut N, mut volume: Volume, name: PageName) -> Result<
         → Mounted (N.device nor.old).image volume s → held s name.image ≡ Some h → IsElsewhere name next h }
     ensures bad { (kept found : ℕ) → result ≡ Err (SealFault.Bad kept found) → (s : Store) (h : Held)
         → Mounted (N.device nor.old).image volume s → held s name.image ≡ Some h
-        → (kept ≡ kept_crc h) × (found ≡ crc_of (standing (N.device nor.old).image name)) × (found ≢ kept) }
+        → (kept ≡ kept_crc h) × (found ≡ crc_of (its_page (N.device nor.old).image name)) × (found ≢ kept) }
     ensures unfit { result ≡ Err SealFault.Unfit → (s : Store) (h : Held)
         → Mounted (N.device nor.old).image volume s → held s name.image ≡ Some h
-        → (name.page ≡ 0) × (may_seal name.image h (standing (N.device nor.old).image name) ≡ false) }
+        → (name.page ≡ 0) × (may_seal name.image h (its_page (N.device nor.old).image name) ≡ false) }
     ensures looked { (e : SealFault) → result ≡ Err e → e ≢ SealFault.Stopped → Looked (N.device nor.old) (N.device nor.new) }
     ensures stopped { result ≡ Err SealFault.Stopped → (s : Store) (h : Held) → Mounted (N.device nor.old).image volume s
         → held s name.image ≡ Some h
-        → Stops (sealing_trail s name.image h (standing (N.device nor.old).image name)) (N.device nor.old) (N.device nor.new) }
+        → Stops (sealing_trail s name.image h (its_page (N.device nor.old).image name)) (N.device nor.old) (N.device nor.new) }
 {
     a_lent_slot_is_filled();
     a_slot_holds_its_sectors();

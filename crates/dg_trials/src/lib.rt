@@ -1,4 +1,4 @@
-//! Tests of what each line of a script says at each place, and of which boards a world knows.
+//! Tests of what each line of a script says at each place, of which boards a world knows, and of acts that are planned.
 #![tactic(auto)]
 
 #[cfg(test)]
@@ -7,3 +7,7 @@ mod fault_lines;
 mod faults;
 #[cfg(test)]
 mod known_boards;
+#[cfg(test)]
+mod plan_faults;
+#[cfg(test)]
+mod plans;

@@ -8,7 +8,7 @@ use Rattle.dg_slot.specs.Layout.{most_pages, header_sector}
 use Rattle.dg_slot.specs.Fits.{may_seal}
 use Rattle.dg_slot.specs.Jobs.{outline_of_slot, done_of_slot, slot_of, SlotStops, seal_trail}
 use Rattle.dg_volume.specs.Stands.{Stands}
-use Rattle.dg_plan.specs.Packets.{standing}
+use Rattle.dg_plan.specs.Packets.{its_page}
 use Rattle.dg_plan.proofs.PacketLemmas.{is_next, is_elsewhere}
 use Rattle.dg_plan.proofs.SealLemmas.{held_told, not_told, not_golden, sealing_operations, sealing_last, keeps_more, ready}
 use Rattle.dg_plan.proofs.seals.seal_next.Goals as goal
@@ -77,7 +77,7 @@ returns-in-Ok-Sealed-clause-sealed g c = λ s m.
     let page = sym c.done-next.ensures ∙ c.if-next-name.false in
     let more : done_of_slot o < (outline_of_slot o).pages = omega (arith, pages, c.done-next.ensures, c.if-next-profile.false, o.within) in
     let few : name.page < most_pages = omega (arith, more, page, o.profile.few_pages) in
-    let p = standing old name in
+    let p = its_page old name in
     let x = held_told old v s i _ c.requires.known_image m c.in-Some.ensures.told in
     let h = x.kept in
     let here = x.here in
@@ -112,7 +112,7 @@ returns-in-Ok-Bad-clause-bad g c = λ kept found r s h m here.
     let page = sym c.done-next.ensures ∙ c.if-next-name.false in
     let more : done_of_slot o < (outline_of_slot o).pages = omega (arith, pages, c.done-next.ensures, c.if-next-profile.false, o.within) in
     let few : name.page < most_pages = omega (arith, more, page, o.profile.few_pages) in
-    let p = standing old name in
+    let p = its_page old name in
     let opened = c.in-Some.ensures.lends.1 old s h m here in
     let next = is_next old o h name (sym opened.opens.version ∙ sym version ∙ c.if-profile-name.false) opened page more in
     let low = not_golden old s i h m.stands here next.more in
@@ -136,7 +136,7 @@ returns-in-Ok-Unfit-clause-unfit g c = λ r s h m here.
     let page = sym c.done-next.ensures ∙ c.if-next-name.false in
     let more : done_of_slot o < (outline_of_slot o).pages = omega (arith, pages, c.done-next.ensures, c.if-next-profile.false, o.within) in
     let few : name.page < most_pages = omega (arith, more, page, o.profile.few_pages) in
-    let p = standing old name in
+    let p = its_page old name in
     let opened = c.in-Some.ensures.lends.1 old s h m here in
     let next = is_next old o h name (sym opened.opens.version ∙ sym version ∙ c.if-profile-name.false) opened page more in
     let low = not_golden old s i h m.stands here next.more in
@@ -160,7 +160,7 @@ returns-in-Err-clause-stopped g c = λ r s h m here.
     let page = sym c.done-next.ensures ∙ c.if-next-name.false in
     let more : done_of_slot o < (outline_of_slot o).pages = omega (arith, pages, c.done-next.ensures, c.if-next-profile.false, o.within) in
     let few : name.page < most_pages = omega (arith, more, page, o.profile.few_pages) in
-    let p = standing old name in
+    let p = its_page old name in
     let opened = c.in-Some.ensures.lends.1 old s h m here in
     let next = is_next old o h name (sym opened.opens.version ∙ sym version ∙ c.if-profile-name.false) opened page more in
     let low = not_golden old s i h m.stands here next.more in
@@ -192,7 +192,7 @@ returns-in-Ok-Bad-clause-looked g c = λ e r ne.
     let page = sym c.done-next.ensures ∙ c.if-next-name.false in
     let more : done_of_slot o < (outline_of_slot o).pages = omega (arith, pages, c.done-next.ensures, c.if-next-profile.false, o.within) in
     let few : name.page < most_pages = omega (arith, more, page, o.profile.few_pages) in
-    let p = standing old name in
+    let p = its_page old name in
     let x = held_told old v s i _ c.requires.known_image m c.in-Some.ensures.told in
     let h = x.kept in
     let here = x.here in
@@ -219,7 +219,7 @@ returns-in-Ok-Unfit-clause-looked g c = λ e r ne.
     let page = sym c.done-next.ensures ∙ c.if-next-name.false in
     let more : done_of_slot o < (outline_of_slot o).pages = omega (arith, pages, c.done-next.ensures, c.if-next-profile.false, o.within) in
     let few : name.page < most_pages = omega (arith, more, page, o.profile.few_pages) in
-    let p = standing old name in
+    let p = its_page old name in
     let x = held_told old v s i _ c.requires.known_image m c.in-Some.ensures.told in
     let h = x.kept in
     let here = x.here in

@@ -2,15 +2,17 @@
 ghost use Rattle.std.specs.Prelude.{◌≡◌, IfOk, length, vec_len};
 ghost use Rattle.dg_nor.specs.Sizes.{chip_size};
 
-use crate::tests::{
+use crate::plans::{
     Act, BYTES, MOST_BYTES, MOST_COMMANDS, NAME, NONE, OTHER, announced, before, chip_of,
     formatted, made, named, ordered,
 };
-use crate::{ActFault, PacketFault, PageName, Plan, SealFault, inject, order, packet, seal, take};
 use dg_base::crc16;
 use dg_bits::PageBits;
 use dg_nor::Board;
 use dg_object::{PACKET_SIZE, PACKETS, PAGE_SIZE};
+use dg_plan::{
+    ActFault, PacketFault, PageName, Plan, SealFault, inject, order, packet, seal, take,
+};
 use dg_volume::{InjectFault, Order, OrderFault};
 use std::alloc::Global;
 use std::test::Fail;

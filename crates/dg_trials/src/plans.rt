@@ -3,11 +3,10 @@
 ghost use Rattle.std.specs.Prelude.{◌≡◌, IfOk, length, vec_len};
 ghost use Rattle.dg_nor.specs.Sizes.{chip_size};
 
-use crate::packets::put_packet;
-use crate::{Command, PageName, Plan, inject, order, packet, seal, start, take};
 use dg_bits::PageBits;
 use dg_nor::{Board, CHIP_SIZE, Counted, Nor};
 use dg_object::{PACKET_SIZE, PACKETS, PAGE_SIZE, PacketBytes, Profile, page_of, profile_of};
+use dg_plan::{Command, PageName, Plan, inject, order, packet, put_packet, seal, start, take};
 use dg_volume::{FORM, Order, StartCause, Volume};
 use std::alloc::Global;
 use std::test::Fail;
@@ -111,7 +110,20 @@ fn planned_in<'a>(
     }
     let mut plan = Plan::new(chip, commands, bytes);
     let done = plan_act(&mut plan, act);
-    (done, plan.count(), plan.used)
+    let count = plan.count();
+    (done, count, bytes_used(commands, count))
+}
+
+/// How many bytes these commands program: each has its own, after those of the one before.
+fn bytes_used(commands: &[Command], count: usize) -> usize {
+    let mut used = 0;
+    for k in 0..count.min(commands.len()) {
+        let command = commands[k];
+        if command.kind == 2 {
+            used = command.from as usize + command.count as usize;
+        }
+    }
+    used
 }
 
 fn byte_at(bytes: &[u8], at: usize) -> u8 {
