@@ -1,4 +1,4 @@
--- The `have` lines of an event say what its mote keeps after it.
+-- The `have` and `lost` lines of an event say what its mote keeps after it.
 use Rattle.std.proofs.Common.{◌≡◌, ℕ, ◌+◌, ◌<◌, ◌≤◌, Bool, true, false, cond, List, [], ◌∷◌, ◌++◌, length, refl, sym, ap, subst, ◌∙◌, arith}
 use Rattle.std.specs.Prelude.{Option, Some, None, zero, suc}
 use Rattle.std.specs.List.{AllByRecursion, cons_option, filter, filter_map, range_with_len}
@@ -53,7 +53,7 @@ cons_tells m s (Some line) rest may all = (may, all)
 
 have_tells : (m i : ℕ) (s : Store) (o n : Option Held) → i < images → held s i ≡ n → MayTell m s (have_change m i o n)
 have_tells m i s None None lt is = tt
-have_tells m i s (Some old) None lt is = tt
+have_tells m i s (Some old) None lt is = (refl, lt, is)
 have_tells m i s o (Some new) lt is = by (same_held o new)
   where
     by : (b : Bool) → MayTell m s (cond b None (Some (Have m i new.version (length new.complete))))

@@ -6,3 +6,7 @@ mod ToldLemmas
 mod PowerLemmas
 mod UptimeLemmas
 pub mod HaveLemmas
+mod PageCountLemmas
+mod LineLemmas
+mod PageStepLemmas
+mod WholeLemmas

@@ -1,5 +1,6 @@
 -- What a counter of events has counted (the type `EventCounter`).
 use Rattle.std.specs.Prelude.{◌≡◌, ℕ, ◌%◌, ◌^◌, ◌<◌, Bool, List, length, replicate, slice_get, slice_index, Some}
+use Rattle.dg_volume.specs.Sizes.{images}
 use Rattle.dg_rules.specs.Sizes.{most_motes}
 use Rattle.dg_rules.specs.Runs.{Played}
 use Rattle.dg_events.specs.Counts.{count_at, count_all, has_kind, is_refused, is_cut, is_start_by_power, is_start_by_order}
@@ -29,7 +30,7 @@ pub record CountsAre (mote : ℕ) (played : List Played) (c : EventCounts) : Typ
   pub by_power : c.by_power ≡ told_count mote is_start_by_power played
   pub by_order : c.by_order ≡ told_count mote is_start_by_order played
   pub cut_by_power : c.cut_by_power ≡ told_count mote is_cut_start_by_power played
-  pub of_image : AreCounts mote is_start_of played 7 c.of_image
+  pub of_image : AreCounts mote is_start_of played images c.of_image
 
 -- nothing was counted
 abbrev pub no_counts : EventCounts
@@ -40,7 +41,7 @@ no_counts = record {
   by_power = 0;
   by_order = 0;
   cut_by_power = 0;
-  of_image = replicate 7 0;
+  of_image = replicate images 0;
 }
 
 -- the counts of each mote are those of what was played

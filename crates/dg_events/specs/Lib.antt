@@ -9,3 +9,4 @@ pub mod FrameShares
 pub mod FrameCounters
 pub mod Uptimes
 pub mod Keeps
+pub mod HaveLines

@@ -3,7 +3,7 @@ ghost use Rattle.std.specs.Prelude.{◌≡◌, ◌∷◌, ◌++◌, [], List, sl
 ghost use Rattle.dg_rules.specs.Events.{mote_of};
 ghost use Rattle.dg_rules.specs.Runs.{Played};
 ghost use Rattle.dg_events.specs.Kinds.{event_number};
-ghost use Rattle.dg_events.specs.Told.{nothing_told};
+ghost use Rattle.dg_events.specs.Told.{nothing_told, told_by};
 ghost use Rattle.dg_events.specs.Counters.{no_counts, AllCounted, HasCounted};
 ghost use Rattle.dg_events.specs.Noted.{IsEventPlayed, IsOutcome};
 
@@ -57,6 +57,19 @@ impl EventCounter {
         } else {
             note_told_at(&mut self.motes, usize::from(mote), event, kind, reports);
         }
+    }
+
+    /// Counts an event of this kind at this mote, of which these lines tell no outcome.
+    #[inline(always)]
+    pub fn note_quiet(&mut self, event: &Event, kind: usize, mote: u8, reports: &[Report])
+        requires kind { kind ≡ event_number event.now }
+        requires mote { mote ≡ mote_of event.now }
+        requires quiet { told_by reports.now ≡ nothing_told }
+        ensures { (past : List Played) (p : Played) → IsEventPlayed event.now reports.now p → HasCounted self.old past
+            → HasCounted self.new (past ++ p ∷ []) }
+    {
+        self.all = self.all.wrapping_add(1);
+        note_quiet_at(&mut self.motes, usize::from(mote), event, kind);
     }
 }
 

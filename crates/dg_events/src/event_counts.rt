@@ -11,6 +11,7 @@ ghost use Rattle.dg_events.specs.Noted.{up_if, up_for, up_by_cause, with_event};
 use crate::counting::add_one;
 use crate::kinds::cause_kind;
 use crate::told::Told;
+use dg_control::IMAGES;
 use dg_rules::{Cause, Event};
 
 /// What is counted of the events at a mote. A count wraps after the greatest `u64`, which no run reaches.
@@ -29,7 +30,7 @@ pub struct EventCounts {
     /// The starts of resets in which a cut fired.
     pub cut_by_power: u64,
     /// The successful starts, by the image that then runs.
-    pub of_image: [u64; 7],
+    pub of_image: [u64; IMAGES],
 }
 
 /// Whether an event is a reset.
@@ -102,7 +103,7 @@ impl EventCounts {
             by_power: 0,
             by_order: 0,
             cut_by_power: 0,
-            of_image: [0; 7],
+            of_image: [0; IMAGES],
         }
     }
 

@@ -1,5 +1,5 @@
 //! What is counted of the frames of motes.
-ghost use Rattle.std.specs.Prelude.{◌≡◌, ◌∷◌, ◌++◌, false, [], List, slice_index_or, is_some};
+ghost use Rattle.std.specs.Prelude.{◌≡◌, ◌<◌, ◌∷◌, ◌++◌, true, false, [], List, slice_index_or, is_some, vec_len, vec_capacity};
 ghost use Rattle.dg_base.specs.declared.events.Event.{Event};
 ghost use Rattle.dg_rules.specs.Events.{mote_of};
 ghost use Rattle.dg_rules.specs.Runs.{Played};
@@ -7,7 +7,8 @@ ghost use Rattle.dg_script.specs.declared.report.Report.{Report};
 ghost use Rattle.dg_events.specs.Told.{told_by};
 ghost use Rattle.dg_events.specs.FrameCounters.{HasFrames, KeepsFrames, IsFrameless, IsSending, IsBringing, no_frames};
 ghost use Rattle.dg_events.specs.FrameCounters.{with_heard, with_heard_at, with_sent_at, HearsIn, KeepsKinds};
-ghost use Rattle.dg_events.specs.FrameShares.{with_fault};
+ghost use Rattle.dg_events.specs.FrameShares.{with_fault, with_one};
+ghost use Rattle.dg_events.specs.RefusedFrames.{fault_number};
 ghost use Rattle.dg_events.specs.Frames.{frame_size};
 
 use crate::counting::{add_one, add_share};
@@ -64,19 +65,28 @@ impl FrameCounts {
         ensures { self.new ≡ with_heard kind fault self.old }
     {
         add_one(&mut self.heard, kind);
-        add_refused(&mut self.refused, fault, frame_bytes(kind));
+        add_refused(&mut self.refused, fault, kind);
     }
 }
 
-/// Counts a frame of this many bytes under its fault, if there is one.
+/// Counts a frame of this kind under its fault, if there is one. Most frames have none.
 #[inline(always)]
-fn add_refused(shares: &mut [Share], fault: Option<FrameFault>, bytes: usize)
-    ensures { shares.new ≡ with_fault fault bytes shares.old }
+fn add_refused(shares: &mut [Share], fault: Option<FrameFault>, kind: usize)
+    ensures { shares.new ≡ with_fault fault (frame_size kind) shares.old }
 {
     match fault {
-        Some(fault) => add_share(shares, fault_kind(fault), bytes),
+        Some(fault) => add_fault(shares, fault, kind),
         None => {}
     }
+}
+
+/// Counts a frame of this kind under its fault.
+#[cold]
+#[inline(never)]
+fn add_fault(shares: &mut [Share], fault: FrameFault, kind: usize)
+    ensures { shares.new ≡ with_one (fault_number fault) (frame_size kind) shares.old }
+{
+    add_share(shares, fault_kind(fault), frame_bytes(kind));
 }
 
 /// What is counted of the frames of motes.
@@ -117,15 +127,15 @@ fn hear_in(sent: &mut [SentFrame], number: usize, mote: u8) -> Option<HeardFrame
     Some(sent[number - 1].hear(mote))
 }
 
-/// Adds to the outcome of the frame with this number, if there is one.
+/// Adds to the outcome of the frame with this number, if there is one. Answers what it was before.
 #[inline(always)]
-fn mark_in(sent: &mut [SentFrame], number: usize, traced: u16, state: u8)
+fn mark_in(sent: &mut [SentFrame], number: usize, traced: u16, state: u8) -> Option<SentFrame>
     ensures { KeepsKinds sent.old sent.new }
 {
     if number == 0 || sent.len() < number {
-        return;
+        return None;
     }
-    sent[number - 1].mark(traced, state);
+    Some(sent[number - 1].mark(traced, state))
 }
 
 /// A mote heard one more frame of this kind, which it refuses if there is a fault.
@@ -150,14 +160,16 @@ fn add_sent(motes: &mut [FrameCounts], mote: u8, kind: u8)
     }
 }
 
-/// Reserves capacity for one more frame.
+/// Reserves capacity for one more frame. Answers false if memory runs out.
+#[cold]
 #[inline(never)]
-fn grow(sent: &mut Vec<SentFrame>)
-    ensures { sent.new.items ≡ sent.old.items }
+fn grow(sent: &mut Vec<SentFrame>) -> bool
+    ensures room { result ≡ true → vec_len sent.new < vec_capacity sent.new }
+    ensures items { sent.new.items ≡ sent.old.items }
 {
     match sent.reserve(1) {
-        Ok(()) => {}
-        Err(_) => {}
+        Ok(()) => true,
+        Err(_) => false,
     }
 }
 
@@ -206,23 +218,26 @@ impl FrameCounter {
             → HasFrames self.old past → HasFrames self.new (past ++ p ∷ []) }
         ensures lost { self.new.lost ≡ false → self.old.lost ≡ false }
     {
-        self.make_room();
-        match self.sent.push(SentFrame::new(mote, kind)) {
-            Ok(()) => add_sent(&mut self.motes, mote, kind),
-            Err(_) => self.lost = true,
+        if !self.make_room() {
+            self.lost = true;
+            return;
         }
+        self.sent.push_reserved(SentFrame::new(mote, kind));
+        add_sent(&mut self.motes, mote, kind);
     }
 
-    /// Makes room for one more frame, unless memory runs out.
+    /// Makes room for one more frame. Answers false if memory runs out.
     #[inline(always)]
-    fn make_room(&mut self)
+    fn make_room(&mut self) -> bool
+        ensures room { result ≡ true → vec_len self.new.sent < vec_capacity self.new.sent }
         ensures sent { self.new.sent.items ≡ self.old.sent.items }
         ensures motes { self.new.motes ≡ self.old.motes }
         ensures lost { self.new.lost ≡ self.old.lost }
     {
-        if self.sent.capacity() <= self.sent.len() {
-            grow(&mut self.sent);
+        if self.sent.len() < self.sent.capacity() {
+            return true;
         }
+        grow(&mut self.sent)
     }
 
     /// Counts the frame with this number, which an event brought to this mote, unless these lines report that the event was
@@ -253,11 +268,11 @@ impl FrameCounter {
     }
 
     /// Adds to the outcome of the frame with this number: the motes to which its bytes came from outside, by a bit for each, and
-    /// a set of outcomes.
+    /// a set of outcomes. Answers what the frame was before, None if there is none.
     #[inline(always)]
-    pub fn mark(&mut self, number: usize, traced: u16, state: u8)
+    pub fn mark(&mut self, number: usize, traced: u16, state: u8) -> Option<SentFrame>
         ensures { KeepsFrames self.old self.new }
     {
-        mark_in(&mut self.sent, number, traced, state);
+        mark_in(&mut self.sent, number, traced, state)
     }
 }

@@ -3,9 +3,6 @@ ghost use Rattle.std.specs.Prelude.{◌≡◌};
 
 use dg_base::MOST_MOTES;
 
-/// It was heard.
-pub const HEARD: u8 = 1;
-
 /// A frame that was sent, and its outcome.
 #[derive(Clone, Copy)]
 pub struct SentFrame {
@@ -15,17 +12,19 @@ pub struct SentFrame {
     pub heard: u16,
     /// A bit for each mote to which its bytes came from outside.
     pub traced: u16,
-    /// Its outcome, as a sum of [`HEARD`] and others.
+    /// What else became of it, as a set of outcomes.
     pub state: u8,
 }
 
-/// A frame that a mote heard.
+/// A frame that a mote heard, as it was before.
 #[derive(Clone, Copy)]
 pub struct HeardFrame {
     pub by: u8,
     pub kind: u8,
-    /// The mote heard it for the first time.
-    pub fresh: bool,
+    /// A bit for each mote that had heard it.
+    pub heard: u16,
+    /// A bit for each mote to which its bytes had come from outside.
+    pub traced: u16,
 }
 
 /// The bit of a mote.
@@ -55,23 +54,25 @@ impl SentFrame {
         ensures kind { result.kind ≡ self.old.kind }
         ensures kept { self.new.kind ≡ self.old.kind }
     {
-        let mote = bit(mote);
-        let fresh = self.heard & mote == 0;
-        self.heard |= mote;
-        self.state |= HEARD;
+        let before = self.heard;
+        self.heard |= bit(mote);
         HeardFrame {
             by: self.by,
             kind: self.kind,
-            fresh,
+            heard: before,
+            traced: self.traced,
         }
     }
 
-    /// Adds to its outcome: motes to which its bytes came from outside, by their bits, and a set of outcomes.
+    /// Adds to its outcome: motes to which its bytes came from outside, by their bits, and a set of outcomes. Answers what it was
+    /// before.
     #[inline(always)]
-    pub fn mark(&mut self, traced: u16, state: u8)
+    pub fn mark(&mut self, traced: u16, state: u8) -> SentFrame
         ensures { self.new.kind ≡ self.old.kind }
     {
+        let before = *self;
         self.traced |= traced;
         self.state |= state;
+        before
     }
 }

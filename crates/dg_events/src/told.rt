@@ -1,6 +1,7 @@
 //! The outcome of an event, by the lines that are reported of it.
-ghost use Rattle.std.specs.Prelude.{◌≡◌};
-ghost use Rattle.dg_events.specs.Told.{and_line, told_by};
+ghost use Rattle.std.specs.Prelude.{◌≡◌, true};
+ghost use Rattle.dg_events.specs.Told.{and_line, nothing_told, told_by};
+ghost use Rattle.dg_events.specs.declared.told.Told.{Told};
 
 use dg_rules::Cause;
 use dg_script::Report;
@@ -56,4 +57,46 @@ pub fn told_by(reports: &[Report]) -> Told
         told.note(report);
     }
     told
+}
+
+/// Whether nothing is reported, so that no outcome is told.
+#[inline(always)]
+pub fn are_none(reports: &[Report]) -> bool
+    ensures { result ≡ true → told_by reports.now ≡ nothing_told }
+{
+    reports.is_empty()
+}
+
+/// Whether these lines report frames that were sent and nothing else, so that no outcome is told.
+#[inline(always)]
+pub fn are_sent(reports: &[Report]) -> bool
+    ensures { result ≡ true → told_by reports.now ≡ nothing_told }
+{
+    for report in reports {
+        if !is_sent(report) {
+            return false;
+        }
+    }
+    true
+}
+
+/// Whether a line reports a frame that was sent, which adds nothing to an outcome.
+#[inline(always)]
+fn is_sent(report: &Report) -> bool
+    ensures { result ≡ true → (told : Told) → and_line told report.now ≡ told }
+{
+    match report {
+        Report::SentAdvert { .. } | Report::SentRequest { .. } | Report::SentData { .. } => true,
+        Report::Refused { .. }
+        | Report::Off { .. }
+        | Report::Start { .. }
+        | Report::Order { .. }
+        | Report::Lost { .. }
+        | Report::Have { .. }
+        | Report::Taken { .. }
+        | Report::End { .. }
+        | Report::MoteOn { .. }
+        | Report::MoteOff { .. }
+        | Report::Kept { .. } => false,
+    }
 }

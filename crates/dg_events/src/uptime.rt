@@ -1,10 +1,10 @@
 //! How long motes are on.
-ghost use Rattle.std.specs.Prelude.{◌≡◌, ◌<◌, ◌^◌, ◌∷◌, ◌++◌, [], List, slice_index_or};
+ghost use Rattle.std.specs.Prelude.{◌≡◌, ◌<◌, ◌^◌, ◌∷◌, ◌++◌, ℕ, [], List, slice_index_or};
 ghost use Rattle.dg_base.specs.declared.events.Event.{Event};
 ghost use Rattle.dg_rules.specs.Events.{mote_of, dt_of};
 ghost use Rattle.dg_rules.specs.Runs.{Played};
 ghost use Rattle.dg_events.specs.Noted.{IsEventPlayed};
-ghost use Rattle.dg_events.specs.Told.{told_by};
+ghost use Rattle.dg_events.specs.Told.{nothing_told, told_by};
 ghost use Rattle.dg_events.specs.Uptimes.{never_on, up_until, with_start, with_stop, with_outcome, with_outcome_at};
 ghost use Rattle.dg_events.specs.Uptimes.{with_time, IsBefore, HasTimed};
 
@@ -115,7 +115,26 @@ impl Uptimes {
         self.advance(count, mote, dt, reports);
     }
 
+    /// An event comes `dt` milliseconds after the one before, of which these lines tell no outcome.
+    #[inline(always)]
+    pub fn note_quiet(&mut self, dt: u32, reports: &[Report])
+        requires { told_by reports.now ≡ nothing_told }
+        ensures { (count : ℕ) (past : List Played) (e : Event) (p : Played) → dt ≡ dt_of e → IsEventPlayed e reports.now p
+            → IsBefore count past p.before → HasTimed self.old past → HasTimed self.new (past ++ p ∷ []) }
+    {
+        self.advance_quiet(dt);
+    }
+
     /// The same, by the clock alone.
+    #[inline(always)]
+    fn advance_quiet(&mut self, dt: u32)
+        ensures fits { dt < 2 ^ 32 }
+        ensures timed { (count mote : ℕ) → self.new ≡ with_time self.old count mote dt nothing_told }
+    {
+        self.ms = self.ms.wrapping_add(u64::from(dt));
+    }
+
+    /// An event comes `dt` milliseconds after the one before, by the clock alone.
     #[inline(always)]
     fn advance(&mut self, count: u8, mote: u8, dt: u32, reports: &[Report])
         ensures fits { dt < 2 ^ 32 }

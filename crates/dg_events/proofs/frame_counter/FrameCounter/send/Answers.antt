@@ -5,10 +5,10 @@ use Rattle.dg_events.specs.declared.frame_counter.FrameCounts.{FrameCounts}
 use Rattle.dg_events.proofs.FrameEvents.{sent_frame}
 use Rattle.dg_events.proofs.frame_counter.FrameCounter.send.Goals as goal
 
-pub returns-in-Ok-clause-frames : goal.returns-in-Ok-clause-frames
-returns-in-Ok-clause-frames c lines past p h has kept =
-    sent_frame c.args.self.now.sent.items c.push.new.self.items c.args.self.now.motes c.add_sent.new.motes c.args.event.now lines c.args.kind
+pub returns-clause-frames : goal.returns-clause-frames
+returns-clause-frames c lines past p h has kept =
+    sent_frame c.args.self.now.sent.items c.push_reserved.new.self.items c.args.self.now.motes c.add_sent.new.motes c.args.event.now lines c.args.kind
     c.args.mote c.new.result past p h c.requires.mote c.new.ensures
-    (c.in-Ok.ensures.items ∙ ap (λ (xs : List SentFrame). xs ++ c.new.result ∷ []) c.make_room.ensures.sent)
+    (c.push_reserved.ensures.items ∙ ap (λ (xs : List SentFrame). xs ++ c.new.result ∷ []) c.make_room.ensures.sent)
     (c.add_sent.ensures ∙ ap (λ (ms : List FrameCounts). with_sent_at c.args.mote c.args.kind ms) c.make_room.ensures.motes)
     (has (sym c.make_room.ensures.lost ∙ kept))
