@@ -27,7 +27,7 @@ use Rattle.dg_netcfg.specs.Readings.{IsAllowed}
 use Rattle.dg_volume.specs.Stands.{Stands}
 use Rattle.dg_volume.specs.Table.{row_at}
 use Rattle.dg_world.specs.Boards.{WorldStands}
-use Rattle.dg_world.specs.Counts.{NoneRose}
+use Rattle.dg_world.specs.Counts.{AreSteady}
 use Rattle.dg_world.specs.Formatted.{FirstBoards}
 use Rattle.dg_world.specs.Worlds.{IsWorld}
 use Rattle.dg_world.specs.declared.world.World.{World as KeptWorld}
@@ -56,11 +56,11 @@ rehearsed_world n = first_world (base_row ∷ []) n.links none_narrow (replicate
 abbrev pub declared_world : World → Plan → World
 declared_world w p = record w { declared = planned_row p ∷ [] }
 
--- The chips of this many motes were formatted with golden, and did not come stopped. All others are as before, and no count rose.
+-- The chips of this many motes were formatted with golden, and did not come stopped. All others are as before, and none stopped.
 pub record AreFormatted (motes : ℕ) (old new : List Device) : Type 0 where
   pub stands : (m : ℕ) (d : Device) → m < motes → slice_get new m ≡ Some d → Stands d.image base_chip
   pub awake : (m : ℕ) (d : Device) → m < motes → slice_get old m ≡ Some d → d.stopped ≡ false
-  pub calm : NoneRose old new
+  pub calm : AreSteady old new
   pub boards : FirstBoards motes old new
 
 -- ---- the script

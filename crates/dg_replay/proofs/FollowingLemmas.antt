@@ -3,6 +3,7 @@ use Rattle.std.proofs.Common.{◌≡◌, ⊎_elim, inl, inr, ℕ, ◌+◌, ◌<�
 use Rattle.std.specs.Prelude.{nat_le}
 use Rattle.std.proofs.lemmas.Bool.Decides.{nat_tests}
 use Rattle.dg_nor.specs.Device.{Device}
+use Rattle.dg_object.specs.Object.{Row}
 use Rattle.dg_script.specs.Sizes.{most_line}
 use Rattle.dg_script.specs.Lines.{line_of}
 use Rattle.dg_lines.specs.LineReading.{Reading, FirstLine, NextAnswer}
@@ -15,9 +16,8 @@ use Rattle.dg_replay.specs.Playing.{Stood}
 use Rattle.dg_replay.specs.Replaying.{TextAnswer}
 use Rattle.dg_replay.specs.declared.halt.Halt.{Halt}
 use Rattle.dg_replay.specs.declared.halt.Halt.TheVariants.{ReadFault, TooLong, Stopped}
-use Rattle.dg_replay.specs.declared.player.Player.{Player}
 use Rattle.dg_replay.specs.declared.stop.Stop.{Stop}
-use Rattle.dg_replay.specs.Stages.{Baseline, DoneSoFar, ReplayState, line_read}
+use Rattle.dg_replay.specs.Stages.{based_on, DoneSoFar, ReplayState, line_read}
 use Rattle.dg_replay.specs.inner.Words.{bytes_taken}
 use Rattle.dg_replay.specs.Untouched.{TextKeepsBytes}
 use Rattle.dg_replay.specs.declared.stop.Stop.TheVariants.{BadInput}
@@ -52,10 +52,11 @@ next_halted (read_stop.Long line) halt bytes old new A F N P is h none long =
     subst (λ (x : Halt). NextPlayed (Err x) (bytes_taken bytes A) old new F N P) (sym (is ∙ ap (λ (k : ℕ). Stopped (BadInput k line_fault.Long)) h.0))
     (h.1.text, h.1.rest, record { first = h.1.first; used = h.1.used; near = h.1.near }, long h.1.text h.1.long)
 
--- what is played of a text, from a player that stands after lines, and which boards keep their bytes
-abbrev pub TextPlays : Result (Unit {0}) Stop → (text : List ℕ) → (number : ℕ) → (a b : ReplayState) → (failed : Type 0) → Type 0
-TextPlays r text number a b failed = TextKeepsBytes a.player.place text a.boards b.boards
-    × ((basis : Baseline) (so_far : DoneSoFar) → Stood a.player so_far.lines so_far.world basis.boards a.boards → TextAnswer basis r (line_read text number) so_far a b failed)
+-- what is played of a text, from a player that stands after lines, and which boards keep their bytes, where the replay began with
+-- these boards
+abbrev pub TextPlays : Result (Unit {0}) Stop → (text : List ℕ) → (number : ℕ) → (initial : List Device) → (a b : ReplayState) → (failed : Type 0) → Type 0
+TextPlays r text number initial a b failed = TextKeepsBytes a.player.place text a.boards b.boards
+    × ((table : List Row) (so_far : DoneSoFar) → Stood a.player so_far.lines so_far.world initial a.boards → TextAnswer (based_on table initial) r (line_read text number) so_far a b failed)
 
 -- a line that was given was played
 pub given_next : (r : Result Bool Halt) (o : Option ℕ) (n : ℕ) (text bytes : List ℕ) (old new : Reading) (A F N : Type 0) (P : Result (Unit {0}) Stop → List ℕ → ℕ → Type 0) → o ≡ Some n → text ≡ new.text
@@ -67,5 +68,5 @@ given_next r o n text bytes old new A F N P some same h played =
     next_given r n bytes old new A F N (λ x t. P x t (old.number + 1)) g there
 
 -- nothing is played of a line that is too long
-pub long_plays : (a : ReplayState) (n : ℕ) (failed : Type 0) (text : List ℕ) → most_line < length text → TextPlays (Err (BadInput n line_fault.Long)) text n a a failed
-long_plays a n failed text long = (text_same a.player.place text a.boards a.boards refl, λ basis so_far s. (refl, long_line a.player.place text long, record { boards = refl; written = refl; seen = stays_same a.saw }))
+pub long_plays : (initial : List Device) (a : ReplayState) (n : ℕ) (failed : Type 0) (text : List ℕ) → most_line < length text → TextPlays (Err (BadInput n line_fault.Long)) text n initial a a failed
+long_plays initial a n failed text long = (text_same a.player.place text a.boards a.boards refl, λ table so_far s. (refl, long_line a.player.place text long, record { boards = refl; written = refl; seen = stays_same a.saw }))

@@ -24,7 +24,7 @@ use Rattle.dg_replay.specs.declared.halt.Halt.TheVariants.{ReadFault, TooLong, S
 use Rattle.dg_replay.specs.declared.player.Player.{Player}
 use Rattle.dg_replay.specs.declared.stop.Stop.{Stop}
 use Rattle.dg_replay.specs.Shown.{Saw}
-use Rattle.dg_replay.specs.Stages.{based_on, done_so_far, replay_state, Span, span}
+use Rattle.dg_replay.specs.Stages.{done_so_far, replay_state, Span, span}
 use Rattle.dg_replay.specs.inner.Words.{bytes_taken}
 use Rattle.dg_replay.specs.declared.stop.Stop.TheVariants.{Memory, BadInput, WriteFault, FlashFault, TooMany, NoBoard, NoImage, NotAVolume}
 use Rattle.dg_replay.proofs.EndLemmas.{script_all, script_over, stop_ending, bounds_done}
@@ -301,12 +301,12 @@ halt_is (Err e) halt h = ap Err (sym h)
 -- the replay halts
 pub lines_halted : {S G : Saw} (law : ImageIsFound) (r : Result (Player × ℕ) Halt) (halt : Halt) (a b c : Option (List ℕ)) (old new : Reading) (more : List ℕ) (number : ℕ) (p q : Player) (initial was now : List Device) (before mid after : Option (List ℕ)) (at_end rose reads failed writes : Type 0) (H : Saw)
     → (rose → reads) → (failed → writes) → IsErrAnd r (λ e. e ≡ halt) → LinesRead a b old number p initial was before mid S G → Takes b c more
-    → NextPlayed (Err halt) (bytes_taken (old.ahead ++ more) at_end) old new rose (AllAsBefore (replay_state p was mid G) (replay_state q now after H)) (λ x t. TextPlays x t (old.number + 1) (replay_state p was mid G) (replay_state q now after H) failed)
+    → NextPlayed (Err halt) (bytes_taken (old.ahead ++ more) at_end) old new rose (AllAsBefore (replay_state p was mid G) (replay_state q now after H)) (λ x t. TextPlays x t (old.number + 1) initial (replay_state p was mid G) (replay_state q now after H) failed)
     → Comes a c r at_end reads (span initial now before after S H) writes
 lines_halted {S = S} {G = G} law r halt a b c old new more number p q initial was now before mid after at_end rose reads failed writes H spread widen is i taken h =
     subst (λ (x : Result (Player × ℕ) Halt). Comes a c x at_end reads (span initial now before after S H) writes) (halt_is r halt is) (by_halt halt h)
   where
-    by_halt : (x : Halt) → NextPlayed (Err x) (bytes_taken (old.ahead ++ more) at_end) old new rose (AllAsBefore (replay_state p was mid G) (replay_state q now after H)) (λ y t. TextPlays y t (old.number + 1) (replay_state p was mid G) (replay_state q now after H) failed) → Comes a c (Err x) at_end reads (span initial now before after S H) writes
+    by_halt : (x : Halt) → NextPlayed (Err x) (bytes_taken (old.ahead ++ more) at_end) old new rose (AllAsBefore (replay_state p was mid G) (replay_state q now after H)) (λ y t. TextPlays y t (old.number + 1) initial (replay_state p was mid G) (replay_state q now after H) failed) → Comes a c (Err x) at_end reads (span initial now before after S H) writes
     by_halt ReadFault k = lines_failed a b c reads rose writes spread old more number p q initial was now before mid after at_end i taken k
     by_halt TooLong k = lines_over a b c reads writes old more number p q initial was now before mid after at_end i taken k
-    by_halt (Stopped stop) k = lines_stopped law stop a b c reads old more number p q initial was now before mid after at_end failed writes H widen i taken k.0 k.1 k.2 (k.3.0, λ done w table s. k.3.1 (based_on table initial) (done_so_far done w) s)
+    by_halt (Stopped stop) k = lines_stopped law stop a b c reads old more number p q initial was now before mid after at_end failed writes H widen i taken k.0 k.1 k.2 (k.3.0, λ done w table s. k.3.1 table (done_so_far done w) s)

@@ -24,7 +24,8 @@ use Rattle.dg_rules.specs.Sizes.{most_events}
 use Rattle.dg_world.specs.Worlds.{IsWorld}
 use Rattle.dg_world.specs.declared.world.WorldFault.{WorldFault}
 use Rattle.dg_world.specs.declared.world.WorldFault.TheVariants.{Flash, TooMany as TooManyFault, Memory as MemoryFault, NoImage as NoImageFault}
-use Rattle.dg_world.proofs.CountLemmas.{NoneRose_then}
+use Rattle.dg_world.specs.Counts.{AreAwake}
+use Rattle.dg_world.proofs.CountLemmas.{AreSteady_then}
 use Rattle.dg_world.specs.Applied.{Applied, FlashAt, RunEnded}
 use Rattle.dg_world.specs.Applying.{ApplyDone, step_of}
 use Rattle.dg_world.specs.Deployments.{Deployment, deployed}
@@ -38,7 +39,7 @@ use Rattle.dg_replay.specs.Stages.{Told, boards_told}
 use Rattle.dg_replay.specs.declared.stop.Stop.TheVariants.{Memory, BadInput, WriteFault, FlashFault, TooMany, NoBoard, NoImage, NotAVolume}
 use Rattle.dg_replay.proofs.ItemLemmas.{items_run_none, items_run_one, items_run_join, played_one, declared_same, step_counts}
 use Rattle.dg_replay.proofs.ShownLemmas.{shows_none, shows_same, shows_join}
-use Rattle.dg_world.proofs.EndureLemmas.{boards_through, board_stops, event_within, sites_same, other_than, stands_next}
+use Rattle.dg_world.proofs.EndureLemmas.{boards_through, board_stops, event_within, sites_same, other_than, stands_next, standing_awake}
 
 -- ---- the boards after an event
 
@@ -167,7 +168,7 @@ ended_stands w x v initial old new may is e b =
     let count : length e.world.sites ≡ length w.sites = ap (λ (u : World). length u.sites) e.ends.world ∙ length-set w.sites (mote_of x.event) _ in
     record {
       all = boards_through initial old new b.all e.boards.count e.boards.endures;
-      calm = NoneRose_then initial old new b.all.count b.calm e.calm;
+      calm = AreSteady_then initial old new b.all.count b.calm e.calm;
       stands = e.stood;
       came = λ m d inside is_there. b.came m d (omega (arith, inside, count)) is_there;
       others = λ m past.
@@ -192,10 +193,11 @@ ended_in w x reported v initial old new text F G may is e shown stands = record 
 }
 
 -- which a watcher was shown as the end
-pub ended_shown : (w : World) (event : Event) (cut : Option PowerCut) (v : KeptWorld) (initial old new : List Device) (F G : Saw) → MayStep v old (step_of event cut) → IsWorld v old w → w.events < most_events → RunEnded w (step_of event cut) old new
+pub ended_shown : (w : World) (event : Event) (cut : Option PowerCut) (v : KeptWorld) (initial old new : List Device) (F G : Saw) → MayStep v old (step_of event cut) → IsWorld v old w → WorldStands w initial old → w.events < most_events → RunEnded w (step_of event cut) old new
     → ((stores : List Store) (events : List Played) (u : World) → LeadTo stores events u → IsEnding u event new → F stores events → G stores events) → Shows F G w []
-ended_shown w event cut v initial old new F G may is few e ended = λ stores events lead f.
-    subst (λ (es : List Played). G stores es) (sym (append-nil events)) (ended stores events w lead (record { few = few; cut = cut; after = e.world; ends = e.ends; stand = e.stood }) f)
+ended_shown w event cut v initial old new F G may is stands few e ended = λ stores events lead f.
+    let awake : AreAwake (length e.world.sites) new = standing_awake e.world initial new (ended_stands w (step_of event cut) v initial old new may is e stands) in
+    subst (λ (es : List Played). G stores es) (sym (append-nil events)) (ended stores events w lead (record { few = few; cut = cut; after = e.world; ends = e.ends; stand = e.stood; awake = awake }) f)
 
 -- it was applied, and this is the outcome of reporting it
 pub told_as : (r : Result (Unit {0}) Stop) (w : World) (x : Step) (reported : Bool) (v v2 : KeptWorld) (initial old new : List Device) (before reports : List Report) (report_before told : Told) → before ≡ [] → MayStep v old x → (a : Applied w x reported (deployed v old before) (deployed v2 new reports)) → Shows report_before.saw told.saw w (applied_one a reports ∷ [])
@@ -206,10 +208,10 @@ told_as (Err stop) w x reported v v2 initial old new before reports report_befor
     subst (λ (e : Stop). ItemsPlayedAs (Err e) w (Applies x reported ∷ []) v2 initial report_before (boards_told new told)) (sym same) (applied_untold w x reported v v2 initial old new before reports report_before.saw told.saw none may a shown is stands)
 
 -- which a watcher was shown
-pub applied_shown : (w : World) (event : Event) (cut : Option PowerCut) (reported : Bool) (v v2 : KeptWorld) (old new : List Device) (before reports shown : List Report) (F G : Saw) → before ≡ [] → shown ≡ reports → IsWorld v old w
+pub applied_shown : (w : World) (event : Event) (cut : Option PowerCut) (reported : Bool) (v v2 : KeptWorld) (initial old new : List Device) (before reports shown : List Report) (F G : Saw) → before ≡ [] → shown ≡ reports → MayStep v old (step_of event cut) → IsWorld v old w → WorldStands w initial old
     → (done : ApplyDone (Ok tt) (step_of event cut) reported (deployed v old before) (deployed v2 new reports)) → (a : Applied w (step_of event cut) reported (deployed v old before) (deployed v2 new reports))
     → ((stores : List Store) (events : List Played) (p : Played) → LeadTo stores events p.before → IsApplied p event reported (deployed v2 new shown) → F stores events → G stores (events ++ p ∷ [])) → Shows F G w (applied_one a reports ∷ [])
-applied_shown w event cut reported v v2 old new before reports shown F G none same is done a applied = λ stores events lead f.
+applied_shown w event cut reported v v2 initial old new before reports shown F G none same may is stands done a applied = λ stores events lead f.
     let told : reports ≡ filter (is_reported reported) a.reports = a.report_now ∙ ap (λ (rs : List Report). rs ++ filter (is_reported reported) a.reports) none in
     let there : IsApplied (applied_one a reports) event reported (deployed v2 new reports) = record {
       cut = cut;
@@ -221,6 +223,7 @@ applied_shown w event cut reported v v2 old new before reports shown F G none sa
       was = is;
       none = none;
       stands = a.stood;
+      awake = standing_awake a.world initial new (applied_stands w (step_of event cut) reported v v2 initial old new before reports may is stands a);
       done = done;
     } in
     applied stores events (applied_one a reports) lead (subst (λ (rs : List Report). IsApplied (applied_one a reports) event reported (deployed v2 new rs)) (sym same) there) f

@@ -25,7 +25,7 @@ use Rattle.dg_world.specs.Applied.{SameBoards}
 use Rattle.dg_world.specs.declared.mount.MountStopped.{MountStopped}
 use Rattle.dg_world.specs.declared.mount.MountStopped.TheVariants.{Flash, NotAVolume as NoVolume}
 use Rattle.dg_world.specs.Mounted.{StandFor, MountedTo, MountStops, NoVolumeAt}
-use Rattle.dg_world.specs.Counts.{NoneRose}
+use Rattle.dg_world.specs.Counts.{AreSteady, AreAwake}
 use Rattle.dg_world.specs.Formatted.{FirstBoards, FormatStops}
 use Rattle.dg_world.specs.declared.format.FormatStopped.{FormatStopped}
 use Rattle.dg_replay.specs.Replayed.{RunsTo}
@@ -39,7 +39,7 @@ use Rattle.dg_replay.specs.declared.stop.Stop.{Stop}
 use Rattle.dg_replay.specs.Shown.{Saw, IsPlaced, StaysSeen, stores_in, events_played}
 use Rattle.dg_replay.specs.Stages.{based_on, done_so_far, Told, boards_told}
 use Rattle.dg_replay.specs.declared.stop.Stop.TheVariants.{Memory, BadInput, WriteFault, FlashFault, TooMany, NoBoard, NoImage, NotAVolume}
-use Rattle.dg_world.proofs.EndureLemmas.{there}
+use Rattle.dg_world.proofs.EndureLemmas.{there, stay_awake}
 use Rattle.dg_replay.proofs.PlayLemmas.{false_not, no_world, in_world_as, seated_as}
 use Rattle.dg_replay.proofs.ItemLemmas.{runs_from_none}
 use Rattle.dg_replay.proofs.ShownLemmas.{stays_same, shows_nothing}
@@ -152,10 +152,11 @@ endured motes initial old new first others =
     }
 
 -- boards that were only read stood for what they stand for
-stood_before : (motes : ℕ) (stores : List Store) (old new : List Device) → StandFor motes stores new → SameBoards old new → StandFor motes stores old
-stood_before motes stores old new stand same = record {
+stood_before : (motes : ℕ) (stores : List Store) (old new : List Device) → StandFor motes stores new → SameBoards old new → AreAwake motes old → StandFor motes stores old
+stood_before motes stores old new stand same awake = record {
   count = stand.count;
   each = λ m d within is. let is_new : slice_get new m ≡ Some (slice_index_or new m d) = there old new m d same.count is in subst (λ (c : List ℕ). Stands c (store_of stores m)) (same.images m d (slice_index_or new m d) is is_new) (stand.each m (slice_index_or new m d) within is_new);
+  awake = awake;
 }
 
 endured_same : (initial old new : List Device) → old ≡ initial → SameBoards old new → BoardsEndure initial new
@@ -177,10 +178,10 @@ none_some n e = absurd (let f : None ≡ Some n = e in cc)
 pub golden_played : {table : List Row} (p q : Player) (done : List Line) (w : Option World) (name : List ℕ) (used : ℕ) (content : List ℕ) (motes : ℕ) (before told : Told) (initial old new : List Device)
     → p.place.ready ≡ false → motes ≡ p.place.motes → Counted motes (length old) → q.place ≡ place_after p.place (Golden name used content)
     → ((m : ℕ) (d : Device) → m < motes → slice_get new m ≡ Some d → Stands d.image (fresh name content used))
-    → ((m : ℕ) (d : Device) → m < motes → slice_get old m ≡ Some d → d.stopped ≡ false) → NoneRose old new → FirstBoards motes old new
+    → ((m : ℕ) (d : Device) → m < motes → slice_get old m ≡ Some d → d.stopped ≡ false) → AreSteady old new → FirstBoards motes old new
     → ((boards : List Device) (stores : List Store) (table : List Row) → length stores ≡ motes → motes ≤ length boards
     → ((m : ℕ) (d : Device) → m < motes → slice_get boards m ≡ Some d → Stands d.image (slice_index_or stores m no_site.store)) → IsWorld q.world boards (first_world table [] none_narrow stores))
-    → told.text ≡ before.text → ((stores : List Store) → IsPlaced motes (Some used) new stores → before.saw [] [] → told.saw stores [])
+    → told.text ≡ before.text → ((stores : List Store) → IsPlaced motes (Some used) initial new stores → before.saw [] [] → told.saw stores [])
     → Stood p done w initial old → PlayedLine (based_on table initial) q (done_so_far done w) (Golden name used content) before (boards_told new told)
 golden_played p q done (Some w) name used content motes before told initial old new unready count counted place formatted awake calm others begins same_text placed s = false_not p.place.ready s.world.2 unready
 golden_played p q done None name used content motes before told initial old new unready count counted place formatted awake calm others begins same_text placed s =
@@ -202,9 +203,10 @@ golden_played p q done None name used content motes before told initial old new 
         some = counted.0;
         few = counted.1;
         enough = enough;
-        stand = record { count = length-replicate motes chip; each = stores_there };
+        stand = record { count = length-replicate motes chip; each = stores_there; awake = stay_awake motes old new others.count calm awake };
         formatted = λ n is. (name, content, ap (λ (k : ℕ). replicate motes (fresh name content k)) (some_same used n is));
         shaped = λ is. no_some used is;
+        same = λ is. no_some used is;
       }));
       stood = stood_next p q done (Golden name used content) None (Some z) initial old new s.links s place
           (λ some. subst (λ (n : ℕ). Counted n (length new)) (sym same) (counted.0, counted.1, enough))
@@ -212,7 +214,7 @@ golden_played p q done None name used content motes before told initial old new 
           (is_world, many ∙ sym same, ap (λ (x : Place). x.ready) place, subst (λ (n : ℕ). 0 < n) (sym same) counted.0)
           (record {
             all = endured motes initial old new first others;
-            calm = subst (λ (ds : List Device). NoneRose ds new) first calm;
+            calm = subst (λ (ds : List Device). AreSteady ds new) first calm;
             stands = λ m d within is. (is_world.sites m d within is).stands;
             came = λ m d within is. awake m d (omega (arith, many, within)) (ap (λ (ds : List Device). slice_get ds m) first ∙ is);
             others = λ m past. others.others m (omega (arith, many, past)) ∙ ap (λ (ds : List Device). slice_get ds m) first;
@@ -263,10 +265,10 @@ shaped_stores law (Ok u) motes new enough (stores, stand) = (
 pub boards_played : (table : List Row) (p q : Player) (done : List Line) (w : Option World) (motes : ℕ) (before told : Told) (initial old new : List Device)
     → p.place.ready ≡ false → motes ≡ p.place.motes → Counted motes (length old) → q.place ≡ place_after p.place Boards
     → ((stores : List Store) × StandFor motes stores new × ((m : ℕ) → m < motes → IsShaped (store_of stores m)))
-    → ((m : ℕ) (d : Device) → m < motes → slice_get old m ≡ Some d → d.stopped ≡ false) → NoneRose old new → SameBoards old new → ((m : ℕ) → motes ≤ m → slice_get new m ≡ slice_get old m)
+    → ((m : ℕ) (d : Device) → m < motes → slice_get old m ≡ Some d → d.stopped ≡ false) → AreSteady old new → SameBoards old new → ((m : ℕ) → motes ≤ m → slice_get new m ≡ slice_get old m)
     → ((boards : List Device) (stores : List Store) (table : List Row) → length stores ≡ motes → motes ≤ length boards
     → ((m : ℕ) (d : Device) → m < motes → slice_get boards m ≡ Some d → Stands d.image (slice_index_or stores m no_site.store)) → IsWorld q.world boards (first_world table [] none_narrow stores))
-    → told.text ≡ before.text → ((stores : List Store) → IsPlaced motes None new stores → before.saw [] [] → told.saw stores [])
+    → told.text ≡ before.text → ((stores : List Store) → IsPlaced motes None initial new stores → before.saw [] [] → told.saw stores [])
     → Stood p done w initial old → PlayedLine (based_on table initial) q (done_so_far done w) Boards before (boards_told new told)
 boards_played table p q done (Some w) motes before told initial old new unready count counted place stand awake calm same others begins same_text placed s = false_not p.place.ready s.world.2 unready
 boards_played table p q done None motes before told initial old new unready count counted place (stores, stand, shaped) awake calm same others begins same_text placed s =
@@ -281,15 +283,15 @@ boards_played table p q done None motes before told initial old new unready coun
       world = Some z;
       text = [];
       report_now = same_text ∙ sym (append-nil before.text);
-      runs = boards_runs done table stores (subst (λ (n : ℕ). StandFor n stores initial) known (subst (λ (ds : List Device). StandFor motes stores ds) first (stood_before motes stores old new stand same))) (λ m within. shaped m (omega (arith, within, stand.count)))
-          (placed stores (record { some = counted.0; few = counted.1; enough = enough; stand = stand; formatted = λ n is. none_some n is; shaped = λ is. shaped }));
+      runs = boards_runs done table stores (subst (λ (n : ℕ). StandFor n stores initial) known (subst (λ (ds : List Device). StandFor motes stores ds) first (stood_before motes stores old new stand same awake))) (λ m within. shaped m (omega (arith, within, stand.count)))
+          (placed stores (record { some = counted.0; few = counted.1; enough = enough; stand = stand; formatted = λ n is. none_some n is; shaped = λ is. shaped; same = λ is. subst (λ (ds : List Device). SameBoards ds new) first same }));
       stood = stood_next p q done Boards None (Some z) initial old new s.links s place
           (λ some. subst (λ (n : ℕ). Counted n (length new)) (sym here) (counted.0, counted.1, enough))
           s.cut_fits
           (is_world, many ∙ sym here, ap (λ (x : Place). x.ready) place, subst (λ (n : ℕ). 0 < n) (sym here) counted.0)
           (record {
             all = endured_same initial old new first same;
-            calm = subst (λ (ds : List Device). NoneRose ds new) first calm;
+            calm = subst (λ (ds : List Device). AreSteady ds new) first calm;
             stands = λ m d within is. (is_world.sites m d within is).stands;
             came = λ m d within is. awake m d (omega (arith, many, within)) (ap (λ (ds : List Device). slice_get ds m) first ∙ is);
             others = λ m past. others m (omega (arith, many, past)) ∙ ap (λ (ds : List Device). slice_get ds m) first;
@@ -324,7 +326,7 @@ boards_stopped table p q done None motes board before told initial old new unrea
 
 -- a board is not a volume
 pub boards_refused : (table : List Row) (p q : Player) (done : List Line) (w : Option World) (motes board : ℕ) (before told : Told) (initial old new : List Device) → p.place.ready ≡ false → motes ≡ p.place.motes
-    → SameBoards old new → NoVolumeAt board motes old new → NoneRose old new → StaysSeen before.saw told.saw → Stood p done w initial old → PlayedAs (based_on table initial) (Err NotAVolume) q (done_so_far done w) Boards (boards_told old before) (boards_told new told)
+    → SameBoards old new → NoVolumeAt board motes old new → AreSteady old new → StaysSeen before.saw told.saw → Stood p done w initial old → PlayedAs (based_on table initial) (Err NotAVolume) q (done_so_far done w) Boards (boards_told old before) (boards_told new told)
 boards_refused table p q done (Some w) motes board before told initial old new unready count same lacking calm stays s = false_not p.place.ready s.world.2 unready
 boards_refused table p q done None motes board before told initial old new unready count same lacking calm stays s =
     let first : old ≡ initial = s.boards in
@@ -334,13 +336,13 @@ boards_refused table p q done None motes board before told initial old new unrea
         board = board;
         at = subst (λ (n : ℕ). NoVolumeAt board n initial new) here (subst (λ (ds : List Device). NoVolumeAt board motes ds new) first lacking);
         read = subst (λ (ds : List Device). SameBoards ds new) first same;
-        calm = subst (λ (ds : List Device). NoneRose ds new) first calm;
+        calm = subst (λ (ds : List Device). AreSteady ds new) first calm;
       },
       stays,
     )
 
 pub boards_ended : (table : List Row) (p q : Player) (done : List Line) (w : Option World) (motes : ℕ) (e : MountStopped) (stop : Stop) (before told : Told) (initial old new : List Device) → stop ≡ mount_stop e → p.place.ready ≡ false → motes ≡ p.place.motes
-    → SameBoards old new → ((board : ℕ) → e ≡ Flash board → MountStops board motes old new) → ((board : ℕ) → e ≡ NoVolume board → NoVolumeAt board motes old new × NoneRose old new) → told.text ≡ before.text → StaysSeen before.saw told.saw → Stood p done w initial old → PlayedAs (based_on table initial) (Err stop) q (done_so_far done w) Boards (boards_told old before) (boards_told new told)
+    → SameBoards old new → ((board : ℕ) → e ≡ Flash board → MountStops board motes old new) → ((board : ℕ) → e ≡ NoVolume board → NoVolumeAt board motes old new × AreSteady old new) → told.text ≡ before.text → StaysSeen before.saw told.saw → Stood p done w initial old → PlayedAs (based_on table initial) (Err stop) q (done_so_far done w) Boards (boards_told old before) (boards_told new told)
 boards_ended table p q done w motes (Flash board) stop before told initial old new is unready count same stops refuses same_text stays s =
     subst (λ (x : Stop). PlayedAs (based_on table initial) (Err x) q (done_so_far done w) Boards (boards_told old before) (boards_told new told)) (sym is) (boards_stopped table p q done w motes board before told initial old new unready count same (stops board refl) same_text stays s)
 boards_ended table p q done w motes (NoVolume board) stop before told initial old new is unready count same stops refuses same_text stays s =

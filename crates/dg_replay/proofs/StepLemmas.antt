@@ -15,36 +15,41 @@ use Rattle.dg_world.specs.declared.world.World.{World as KeptWorld}
 use Rattle.dg_completion.proofs.GrowLemmas.{all_append, all_replicate, all_times}
 use Rattle.dg_world.specs.Boards.{WorldStands}
 use Rattle.dg_replay.specs.Playing.{ItemsPlayed, ItemsPlayedAs}
-use Rattle.dg_replay.specs.Stages.{Told, boards_told}
+use Rattle.dg_replay.specs.Shown.{Saw}
+use Rattle.dg_replay.specs.Stages.{Told, told_so_far, boards_told}
 use Rattle.dg_replay.specs.declared.stop.Stop.{Stop}
 use Rattle.dg_replay.proofs.ItemStepLemmas.{played_none, played_join, stopped_later}
 
 -- ---- what a loop over items keeps
 
+-- what was reported so far, and what a watcher saw, by the boards with which the replay began
+abbrev pub told_by : (text : List ℕ) (saw : List Device → Saw) → List Device → Told
+told_by text saw initial = told_so_far text (saw initial)
+
 -- These items were played, from a kept world and boards to these.
-pub record PlayedSoFar (items : List Item) (first kept : KeptWorld) (old now : List Device) (report_before told : Told) : Type 0 where
+pub record PlayedSoFar (items : List Item) (first kept : KeptWorld) (old now : List Device) (report_before told : List Device → Told) : Type 0 where
   pub goes : (w : World) → IsWorld first old w → (v : World) × IsWorld kept now v × (length v.sites ≡ length w.sites)
-  pub played : (w : World) (initial : List Device) → IsWorld first old w → WorldStands w initial old → ItemsPlayed w items kept initial now report_before told
+  pub played : (w : World) (initial : List Device) → IsWorld first old w → WorldStands w initial old → ItemsPlayed w items kept initial now (report_before initial) (told initial)
 
-pub so_far_none : (first : KeptWorld) (old : List Device) (told : Told) → PlayedSoFar [] first first old old told told
-so_far_none first old told = record { goes = λ w is. (w, is, refl); played = λ w initial is stands. played_none w first initial old told is stands }
+pub so_far_none : (first : KeptWorld) (old : List Device) (told : List Device → Told) → PlayedSoFar [] first first old old told told
+so_far_none first old told = record { goes = λ w is. (w, is, refl); played = λ w initial is stands. played_none w first initial old (told initial) is stands }
 
-so_far_more : (xs ys : List Item) (first k k2 : KeptWorld) (old mid now : List Device) (t0 t1 t2 : Told) → PlayedSoFar xs first k old mid t0 t1
+so_far_more : (xs ys : List Item) (first k k2 : KeptWorld) (old mid now : List Device) (t0 t1 t2 : List Device → Told) → PlayedSoFar xs first k old mid t0 t1
     → ((w : World) → IsWorld k mid w → (v : World) × IsWorld k2 now v × (length v.sites ≡ length w.sites))
-    → ((w : World) (initial : List Device) → IsWorld k mid w → WorldStands w initial mid → ItemsPlayed w ys k2 initial now t1 t2)
+    → ((w : World) (initial : List Device) → IsWorld k mid w → WorldStands w initial mid → ItemsPlayed w ys k2 initial now (t1 initial) (t2 initial))
     → PlayedSoFar (xs ++ ys) first k2 old now t0 t2
 so_far_more xs ys first k k2 old mid now t0 t1 t2 s goes played =
     record {
       goes = λ w is. let a = s.goes w is in let b = goes a.0 a.1 in (b.0, b.1, b.2 ∙ a.2);
-      played = λ w initial is stands. let a = s.played w initial is stands in played_join w xs ys k k2 initial mid now t0 t1 t2 a (played a.world initial a.kept_now a.boards);
+      played = λ w initial is stands. let a = s.played w initial is stands in played_join w xs ys k k2 initial mid now (t0 initial) (t1 initial) (t2 initial) a (played a.world initial a.kept_now a.boards);
     }
 
-so_far_stops : (stop : Stop) (xs ys more whole : List Item) (first k k2 : KeptWorld) (old mid now : List Device) (t0 t1 t2 : Told) → PlayedSoFar xs first k old mid t0 t1
-    → ((w : World) (initial : List Device) → IsWorld k mid w → WorldStands w initial mid → ItemsPlayedAs (Err stop) w ys k2 initial t1 (boards_told now t2)) → whole ≡ xs ++ (ys ++ more)
-    → (w : World) (initial : List Device) → IsWorld first old w → WorldStands w initial old → ItemsPlayedAs (Err stop) w whole k2 initial t0 (boards_told now t2)
+so_far_stops : (stop : Stop) (xs ys more whole : List Item) (first k k2 : KeptWorld) (old mid now : List Device) (t0 t1 t2 : List Device → Told) → PlayedSoFar xs first k old mid t0 t1
+    → ((w : World) (initial : List Device) → IsWorld k mid w → WorldStands w initial mid → ItemsPlayedAs (Err stop) w ys k2 initial (t1 initial) (boards_told now (t2 initial))) → whole ≡ xs ++ (ys ++ more)
+    → (w : World) (initial : List Device) → IsWorld first old w → WorldStands w initial old → ItemsPlayedAs (Err stop) w whole k2 initial (t0 initial) (boards_told now (t2 initial))
 so_far_stops stop xs ys more whole first k k2 old mid now t0 t1 t2 s played is w initial at stands =
     let a = s.played w initial at stands in
-    stopped_later stop w xs ys more whole k k2 initial mid now t0 t1 t2 a (played a.world initial a.kept_now a.boards) is
+    stopped_later stop w xs ys more whole k k2 initial mid now (t0 initial) (t1 initial) (t2 initial) a (played a.world initial a.kept_now a.boards) is
 
 -- ---- events of rounds
 
@@ -95,24 +100,24 @@ times_one xs = append-nil xs
 -- ---- what a loop over events keeps
 
 -- These events were played of all, and the others are left.
-pub record EventsSoFar (all given left : List Event) (first kept : KeptWorld) (old now : List Device) (report_before told : Told) : Type 0 where
+pub record EventsSoFar (all given left : List Event) (first kept : KeptWorld) (old now : List Device) (report_before told : List Device → Told) : Type 0 where
   pub so_far : PlayedSoFar (unreported given) first kept old now report_before told
   pub parts : given ++ left ≡ all
 
-pub events_none : (all left : List Event) (first : KeptWorld) (old : List Device) (told : Told) → left ≡ all → EventsSoFar all [] left first first old old told told
+pub events_none : (all left : List Event) (first : KeptWorld) (old : List Device) (told : List Device → Told) → left ≡ all → EventsSoFar all [] left first first old old told told
 events_none all left first old told e = record { so_far = so_far_none first old told; parts = e }
 
 -- the next event may be played
-pub events_may : (all given left others : List Event) (event : Event) (first kept : KeptWorld) (old now : List Device) (report_before told : Told) → EventsSoFar all given left first kept old now report_before told → left ≡ event ∷ others
+pub events_may : (all given left others : List Event) (event : Event) (first kept : KeptWorld) (old now : List Device) (report_before told : List Device → Told) → EventsSoFar all given left first kept old now report_before told → left ≡ event ∷ others
     → (z : World) → IsWorld first old z → AllByRecursion (EventInRange (length z.sites)) all → (u : World) × IsWorld kept now u × EventInRange (length u.sites) event
 events_may all given left others event first kept old now report_before told s next z is fits =
     let on = s.so_far.goes z is in
     let at : given ++ event ∷ others ≡ all = ap (λ (xs : List Event). given ++ xs) (sym next) ∙ s.parts in
     (on.0, on.1, subst (λ (n : ℕ). EventInRange n event) (sym on.2) (all_at (EventInRange (length z.sites)) given event others all at fits))
 
-pub events_more : (all given left others : List Event) (event : Event) (first k k2 : KeptWorld) (old mid now : List Device) (t0 t1 t2 : Told) → EventsSoFar all given left first k old mid t0 t1 → left ≡ event ∷ others
+pub events_more : (all given left others : List Event) (event : Event) (first k k2 : KeptWorld) (old mid now : List Device) (t0 t1 t2 : List Device → Told) → EventsSoFar all given left first k old mid t0 t1 → left ≡ event ∷ others
     → ((w : World) → IsWorld k mid w → (v : World) × IsWorld k2 now v × (length v.sites ≡ length w.sites))
-    → ((w : World) (initial : List Device) → IsWorld k mid w → WorldStands w initial mid → ItemsPlayed w (unreported (event ∷ [])) k2 initial now t1 t2)
+    → ((w : World) (initial : List Device) → IsWorld k mid w → WorldStands w initial mid → ItemsPlayed w (unreported (event ∷ [])) k2 initial now (t1 initial) (t2 initial))
     → EventsSoFar all (given ++ event ∷ []) others first k2 old now t0 t2
 events_more all given left others event first k k2 old mid now t0 t1 t2 s next goes played =
     record {
@@ -120,14 +125,14 @@ events_more all given left others event first k k2 old mid now t0 t1 t2 s next g
       parts = append_assoc given (event ∷ []) others ∙ ap (λ (xs : List Event). given ++ xs) (sym next) ∙ s.parts;
     }
 
-pub events_stop : (stop : Stop) (all given left others : List Event) (event : Event) (first k k2 : KeptWorld) (old mid now : List Device) (t0 t1 t2 : Told) → EventsSoFar all given left first k old mid t0 t1 → left ≡ event ∷ others
-    → ((w : World) (initial : List Device) → IsWorld k mid w → WorldStands w initial mid → ItemsPlayedAs (Err stop) w (unreported (event ∷ [])) k2 initial t1 (boards_told now t2))
-    → (w : World) (initial : List Device) → IsWorld first old w → WorldStands w initial old → ItemsPlayedAs (Err stop) w (unreported all) k2 initial t0 (boards_told now t2)
+pub events_stop : (stop : Stop) (all given left others : List Event) (event : Event) (first k k2 : KeptWorld) (old mid now : List Device) (t0 t1 t2 : List Device → Told) → EventsSoFar all given left first k old mid t0 t1 → left ≡ event ∷ others
+    → ((w : World) (initial : List Device) → IsWorld k mid w → WorldStands w initial mid → ItemsPlayedAs (Err stop) w (unreported (event ∷ [])) k2 initial (t1 initial) (boards_told now (t2 initial)))
+    → (w : World) (initial : List Device) → IsWorld first old w → WorldStands w initial old → ItemsPlayedAs (Err stop) w (unreported all) k2 initial (t0 initial) (boards_told now (t2 initial))
 events_stop stop all given left others event first k k2 old mid now t0 t1 t2 s next played =
     so_far_stops stop (unreported given) (unreported (event ∷ [])) (unreported others) (unreported all) first k k2 old mid now t0 t1 t2 s.so_far played
     (unreported_join given (event ∷ []) others all (ap (λ (xs : List Event). given ++ xs) (sym next) ∙ s.parts))
 
-pub events_all : (all given left : List Event) (first kept : KeptWorld) (old now : List Device) (report_before told : Told) → EventsSoFar all given left first kept old now report_before told → left ≡ []
+pub events_all : (all given left : List Event) (first kept : KeptWorld) (old now : List Device) (report_before told : List Device → Told) → EventsSoFar all given left first kept old now report_before told → left ≡ []
     → PlayedSoFar (unreported all) first kept old now report_before told
 events_all all given left first kept old now report_before told s none =
     subst (λ (xs : List Event). PlayedSoFar (unreported xs) first kept old now report_before told) (sym (append-nil given) ∙ ap (λ (xs : List Event). given ++ xs) (sym none) ∙ s.parts) s.so_far
@@ -142,17 +147,17 @@ times_next k n xs h =
 times_more : (k : ℕ) (xs : List Event) → times (k + 1) xs ≡ times k xs ++ xs
 times_more k xs = times_split k 1 xs ∙ ap (λ (ys : List Event). times k xs ++ ys) (times_one xs)
 
-pub times_so_far : (k : ℕ) (events : List Event) (first k1 k2 : KeptWorld) (old mid now : List Device) (t0 t1 t2 : Told) → PlayedSoFar (unreported (times k events)) first k1 old mid t0 t1
+pub times_so_far : (k : ℕ) (events : List Event) (first k1 k2 : KeptWorld) (old mid now : List Device) (t0 t1 t2 : List Device → Told) → PlayedSoFar (unreported (times k events)) first k1 old mid t0 t1
     → ((w : World) → IsWorld k1 mid w → (v : World) × IsWorld k2 now v × (length v.sites ≡ length w.sites))
-    → ((w : World) (initial : List Device) → IsWorld k1 mid w → WorldStands w initial mid → ItemsPlayed w (unreported events) k2 initial now t1 t2)
+    → ((w : World) (initial : List Device) → IsWorld k1 mid w → WorldStands w initial mid → ItemsPlayed w (unreported events) k2 initial now (t1 initial) (t2 initial))
     → PlayedSoFar (unreported (times (k + 1) events)) first k2 old now t0 t2
 times_so_far k events first k1 k2 old mid now t0 t1 t2 s goes played =
     let e : unreported (times (k + 1) events) ≡ unreported (times k events) ++ unreported events = ap unreported (times_more k events) ∙ unreported-append (times k events) events in
     subst (λ (xs : List Item). PlayedSoFar xs first k2 old now t0 t2) (sym e) (so_far_more (unreported (times k events)) (unreported events) first k1 k2 old mid now t0 t1 t2 s goes played)
 
-pub times_stop : (stop : Stop) (k n : ℕ) (events : List Event) (first k1 k2 : KeptWorld) (old mid now : List Device) (t0 t1 t2 : Told) → PlayedSoFar (unreported (times k events)) first k1 old mid t0 t1 → k < n
-    → ((w : World) (initial : List Device) → IsWorld k1 mid w → WorldStands w initial mid → ItemsPlayedAs (Err stop) w (unreported events) k2 initial t1 (boards_told now t2))
-    → (w : World) (initial : List Device) → IsWorld first old w → WorldStands w initial old → ItemsPlayedAs (Err stop) w (unreported (times n events)) k2 initial t0 (boards_told now t2)
+pub times_stop : (stop : Stop) (k n : ℕ) (events : List Event) (first k1 k2 : KeptWorld) (old mid now : List Device) (t0 t1 t2 : List Device → Told) → PlayedSoFar (unreported (times k events)) first k1 old mid t0 t1 → k < n
+    → ((w : World) (initial : List Device) → IsWorld k1 mid w → WorldStands w initial mid → ItemsPlayedAs (Err stop) w (unreported events) k2 initial (t1 initial) (boards_told now (t2 initial)))
+    → (w : World) (initial : List Device) → IsWorld first old w → WorldStands w initial old → ItemsPlayedAs (Err stop) w (unreported (times n events)) k2 initial (t0 initial) (boards_told now (t2 initial))
 times_stop stop k n events first k1 k2 old mid now t0 t1 t2 s h played =
     so_far_stops stop (unreported (times k events)) (unreported events) (unreported (times (n - k - 1) events)) (unreported (times n events)) first k1 k2 old mid now t0 t1 t2 s played
     (unreported_join (times k events) events (times (n - k - 1) events) (times n events) (times_next k n events h))
@@ -161,8 +166,8 @@ pub times_none : (events : List Event) → unreported (times 0 events) ≡ []
 unfolding times
 times_none events = refl
 
-pub at_end : (k n : ℕ) (events : List Event) (first kept : KeptWorld) (old now : List Device) (report_before told : Told) → n ≤ k → k ≤ n → PlayedSoFar (unreported (times k events)) first kept old now report_before told
-    → (w : World) (initial : List Device) → IsWorld first old w → WorldStands w initial old → ItemsPlayed w (unreported (times n events)) kept initial now report_before told
+pub at_end : (k n : ℕ) (events : List Event) (first kept : KeptWorld) (old now : List Device) (report_before told : List Device → Told) → n ≤ k → k ≤ n → PlayedSoFar (unreported (times k events)) first kept old now report_before told
+    → (w : World) (initial : List Device) → IsWorld first old w → WorldStands w initial old → ItemsPlayed w (unreported (times n events)) kept initial now (report_before initial) (told initial)
 at_end k n events first kept old now report_before told low high s =
     let e : k ≡ n = omega arith in
     (subst (λ (m : ℕ). PlayedSoFar (unreported (times m events)) first kept old now report_before told) e s).played
@@ -170,24 +175,24 @@ at_end k n events first kept old now report_before told low high s =
 -- ---- the rounds of a sweep
 
 -- one call was made
-pub so_far_one : (xs : List Item) (first kept : KeptWorld) (old now : List Device) (report_before told : Told)
+pub so_far_one : (xs : List Item) (first kept : KeptWorld) (old now : List Device) (report_before told : List Device → Told)
     → ((w : World) → IsWorld first old w → (v : World) × IsWorld kept now v × (length v.sites ≡ length w.sites))
-    → ((w : World) (initial : List Device) → IsWorld first old w → WorldStands w initial old → ItemsPlayed w xs kept initial now report_before told)
+    → ((w : World) (initial : List Device) → IsWorld first old w → WorldStands w initial old → ItemsPlayed w xs kept initial now (report_before initial) (told initial))
     → PlayedSoFar xs first kept old now report_before told
 so_far_one xs first kept old now report_before told goes played = record { goes = goes; played = played }
 
 -- a call after others
-pub so_far_then : (xs ys : List Event) (first k k2 : KeptWorld) (old mid now : List Device) (t0 t1 t2 : Told) → PlayedSoFar (unreported xs) first k old mid t0 t1
+pub so_far_then : (xs ys : List Event) (first k k2 : KeptWorld) (old mid now : List Device) (t0 t1 t2 : List Device → Told) → PlayedSoFar (unreported xs) first k old mid t0 t1
     → ((w : World) → IsWorld k mid w → (v : World) × IsWorld k2 now v × (length v.sites ≡ length w.sites))
-    → ((w : World) (initial : List Device) → IsWorld k mid w → WorldStands w initial mid → ItemsPlayed w (unreported ys) k2 initial now t1 t2)
+    → ((w : World) (initial : List Device) → IsWorld k mid w → WorldStands w initial mid → ItemsPlayed w (unreported ys) k2 initial now (t1 initial) (t2 initial))
     → PlayedSoFar (unreported (xs ++ ys)) first k2 old now t0 t2
 so_far_then xs ys first k k2 old mid now t0 t1 t2 s goes played =
     subst (λ (zs : List Item). PlayedSoFar zs first k2 old now t0 t2) (sym (unreported-append xs ys)) (so_far_more (unreported xs) (unreported ys) first k k2 old mid now t0 t1 t2 s goes played)
 
 -- a call after others at which the replay stops
-pub so_far_stop : (stop : Stop) (xs ys more all : List Event) (first k k2 : KeptWorld) (old mid now : List Device) (t0 t1 t2 : Told) → PlayedSoFar (unreported xs) first k old mid t0 t1
-    → ((w : World) (initial : List Device) → IsWorld k mid w → WorldStands w initial mid → ItemsPlayedAs (Err stop) w (unreported ys) k2 initial t1 (boards_told now t2)) → xs ++ (ys ++ more) ≡ all
-    → (w : World) (initial : List Device) → IsWorld first old w → WorldStands w initial old → ItemsPlayedAs (Err stop) w (unreported all) k2 initial t0 (boards_told now t2)
+pub so_far_stop : (stop : Stop) (xs ys more all : List Event) (first k k2 : KeptWorld) (old mid now : List Device) (t0 t1 t2 : List Device → Told) → PlayedSoFar (unreported xs) first k old mid t0 t1
+    → ((w : World) (initial : List Device) → IsWorld k mid w → WorldStands w initial mid → ItemsPlayedAs (Err stop) w (unreported ys) k2 initial (t1 initial) (boards_told now (t2 initial))) → xs ++ (ys ++ more) ≡ all
+    → (w : World) (initial : List Device) → IsWorld first old w → WorldStands w initial old → ItemsPlayedAs (Err stop) w (unreported all) k2 initial (t0 initial) (boards_told now (t2 initial))
 so_far_stop stop xs ys more all first k k2 old mid now t0 t1 t2 s played parts =
     so_far_stops stop (unreported xs) (unreported ys) (unreported more) (unreported all) first k k2 old mid now t0 t1 t2 s played (unreported_join xs ys more all parts)
 
@@ -229,9 +234,9 @@ sweep_more (l ∷ links) (suc i) d h =
 pub link_at : (n m : ℕ) (links : List (ℕ × ℕ)) (i : ℕ) (d : ℕ × ℕ) → n ≡ m → i < length links → AllByRecursion (LinkFits m) links → LinkFits n (get_or links i d)
 link_at n m links i d e low each = subst (λ (k : ℕ). LinkFits k (get_or links i d)) (sym e) (all_get (LinkFits m) links i d low each)
 
-pub sweep_goes_on : (links : List (ℕ × ℕ)) (i : ℕ) (d : ℕ × ℕ) (first k k2 : KeptWorld) (old mid now : List Device) (t0 t1 t2 : Told) → i < length links → PlayedSoFar (unreported (sweep (take i links))) first k old mid t0 t1
+pub sweep_goes_on : (links : List (ℕ × ℕ)) (i : ℕ) (d : ℕ × ℕ) (first k k2 : KeptWorld) (old mid now : List Device) (t0 t1 t2 : List Device → Told) → i < length links → PlayedSoFar (unreported (sweep (take i links))) first k old mid t0 t1
     → ((w : World) → IsWorld k mid w → (v : World) × IsWorld k2 now v × (length v.sites ≡ length w.sites))
-    → ((w : World) (initial : List Device) → IsWorld k mid w → WorldStands w initial mid → ItemsPlayed w (unreported (both (get_or links i d))) k2 initial now t1 t2)
+    → ((w : World) (initial : List Device) → IsWorld k mid w → WorldStands w initial mid → ItemsPlayed w (unreported (both (get_or links i d))) k2 initial now (t1 initial) (t2 initial))
     → PlayedSoFar (unreported (sweep (take (i + 1) links))) first k2 old now t0 t2
 sweep_goes_on links i d first k k2 old mid now t0 t1 t2 low s goes played =
     subst (λ (xs : List Event). PlayedSoFar (unreported xs) first k2 old now t0 t2) (sym (sweep_more links i d low))

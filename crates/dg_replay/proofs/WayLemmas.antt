@@ -29,7 +29,7 @@ use Rattle.dg_replay.specs.declared.halt.Halt.TheVariants.{Stopped}
 use Rattle.dg_replay.specs.declared.player.Player.{Player}
 use Rattle.dg_replay.specs.declared.stop.Stop.{Stop}
 use Rattle.dg_replay.specs.Shown.{Saw, StaysSeen}
-use Rattle.dg_replay.specs.Stages.{Baseline, based_on, DoneSoFar, done_so_far, Told, told_so_far, boards_told, ReplayState, replay_state, span, failures}
+use Rattle.dg_replay.specs.Stages.{based_on, DoneSoFar, done_so_far, Told, told_so_far, boards_told, ReplayState, replay_state, span, failures}
 use Rattle.dg_replay.specs.inner.Words.{bytes_taken}
 use Rattle.dg_replay.specs.declared.stop.Stop.TheVariants.{Memory, WriteFault}
 use Rattle.dg_replay.specs.Untouched.{LineKeepsBytes}
@@ -55,50 +55,52 @@ passed_played table p place done w line passed report_before told initial now be
 -- ---- what is played of a text
 
 -- what is promised of a line that is played where the player stands
-abbrev pub LinePlays : Result (Unit {0}) Stop → (p q : Player) → Line → (report_before told : Told) → (old now : List Device) → Type 0
-LinePlays r p q line report_before told old now = (basis : Baseline) (so_far : DoneSoFar) → Stood p so_far.lines so_far.world basis.boards old → PlayedAs basis r q so_far line (boards_told old report_before) (boards_told now told)
+abbrev pub LinePlays : Result (Unit {0}) Stop → (p q : Player) → Line → (report_before told : Told) → (initial old now : List Device) → Type 0
+LinePlays r p q line report_before told initial old now = (table : List Row) (so_far : DoneSoFar) → Stood p so_far.lines so_far.world initial old → PlayedAs (based_on table initial) r q so_far line (boards_told old report_before) (boards_told now told)
 
 -- no line was found
-pub text_unread : (stop : Stop) (text : List ℕ) (number : ℕ) (p : Player) (old : List Device) (before : Option (List ℕ)) (failed : Type 0) (F : Saw) → NotFound p.place text number stop → TextPlays (Err stop) text number (replay_state p old before F) (replay_state p old before F) failed
-text_unread stop text number p old before failed F missing = (text_same p.place text old old refl, λ basis so_far s. not_found_as basis.table stop text number p p so_far.lines so_far.world basis.boards old before failed F missing)
+pub text_unread : (stop : Stop) (text : List ℕ) (number : ℕ) (p : Player) (initial old : List Device) (before : Option (List ℕ)) (failed : Type 0) (F : Saw) → NotFound p.place text number stop → TextPlays (Err stop) text number initial (replay_state p old before F) (replay_state p old before F) failed
+text_unread stop text number p initial old before failed F missing = (text_same p.place text old old refl, λ table so_far s. not_found_as table stop text number p p so_far.lines so_far.world initial old before failed F missing)
 
 -- a line was played, its place went on, and what is reported of it was written, or a prefix of it
-pub text_played : (r : Result (Unit {0}) Stop) (text : List ℕ) (number : ℕ) (p q : Player) (place : Place) (old now : List Device) (line passed : Line) (cleared told shown : List ℕ) (before after : Option (List ℕ)) (failed : Type 0) (F G : Saw)
-    → line_of p.place text ≡ Ok line → cleared ≡ [] → shown ≡ told → LinePlays (Ok tt) p (gone_on q passed) line (told_so_far cleared F) (told_so_far told G) old now → place_after q.place passed ≡ place_after p.place line → place ≡ place_after q.place passed
+pub text_played : (r : Result (Unit {0}) Stop) (text : List ℕ) (number : ℕ) (p q : Player) (place : Place) (initial old now : List Device) (line passed : Line) (cleared told shown : List ℕ) (before after : Option (List ℕ)) (failed : Type 0) (F G : Saw)
+    → line_of p.place text ≡ Ok line → cleared ≡ [] → shown ≡ told → LinePlays (Ok tt) p (gone_on q passed) line (told_so_far cleared F) (told_so_far told G) initial old now → place_after q.place passed ≡ place_after p.place line → place ≡ place_after q.place passed
     → OnOk r (Puts before after shown) → OnErr r (PutsPrefix before after shown × (shown ≢ [])) → OnErr r ((r ≡ Err WriteFault) × failed)
-    → LineKeepsBytes p.place line old now → TextPlays r text number (replay_state p old before F) (replay_state (record q { place = place }) now after G) failed
-text_played r text number p q place old now line passed cleared told shown before after failed F G spelled clear same plays behind at ok cut cause kept = (
+    → LineKeepsBytes p.place line old now → TextPlays r text number initial (replay_state p old before F) (replay_state (record q { place = place }) now after G) failed
+text_played r text number p q place initial old now line passed cleared told shown before after failed F G spelled clear same plays behind at ok cut cause kept = (
   text_keeps p.place text line old now spelled kept,
-  λ basis so_far s.
-      let there : PlayedLine basis (gone_on q passed) so_far line (told_so_far [] F) (boards_told now (told_so_far told G)) = subst (λ (xs : List ℕ). PlayedLine basis (gone_on q passed) so_far line (told_so_far xs F) (boards_told now (told_so_far told G))) clear (plays basis so_far s) in
+  λ table so_far s.
+      let basis = based_on table initial in
+      let there : PlayedLine basis (gone_on q passed) so_far line (told_so_far [] F) (boards_told now (told_so_far told G)) = subst (λ (xs : List ℕ). PlayedLine basis (gone_on q passed) so_far line (told_so_far xs F) (boards_told now (told_so_far told G))) clear (plays table so_far s) in
       let to : PlayedLine basis (gone_on q passed) so_far line (told_so_far [] F) (boards_told now (told_so_far shown G)) = subst (λ (xs : List ℕ). PlayedLine basis (gone_on q passed) so_far line (told_so_far [] F) (boards_told now (told_so_far xs G))) (sym same) there in
-      told_as basis.table r text number p (record q { place = place }) so_far.lines so_far.world basis.boards old now before after failed F G line shown spelled (passed_played basis.table q place so_far.lines so_far.world line passed (told_so_far [] F) (told_so_far shown G) basis.boards now at to) (at ∙ behind) ok cut cause,
+      told_as table r text number p (record q { place = place }) so_far.lines so_far.world initial old now before after failed F G line shown spelled (passed_played table q place so_far.lines so_far.world line passed (told_so_far [] F) (told_so_far shown G) initial now at to) (at ∙ behind) ok cut cause,
 )
 
 -- a line was not played, or begun, and what is reported of that was written, or a prefix of it
-pub text_begun : (stop result : Stop) (text : List ℕ) (number : ℕ) (p q gone : Player) (old now : List Device) (line : Line) (cleared told shown : List ℕ) (before after : Option (List ℕ)) (failed : Type 0) (F G : Saw)
-    → line_of p.place text ≡ Ok line → cleared ≡ [] → shown ≡ told → LinePlays (Err stop) p gone line (told_so_far cleared F) (told_so_far told G) old now → BegunWritten stop result shown before after failed
-    → LineKeepsBytes p.place line old now → TextPlays (Err result) text number (replay_state p old before F) (replay_state q now after G) failed
-text_begun stop result text number p q gone old now line cleared told shown before after failed F G spelled clear same plays written kept = (
+pub text_begun : (stop result : Stop) (text : List ℕ) (number : ℕ) (p q gone : Player) (initial old now : List Device) (line : Line) (cleared told shown : List ℕ) (before after : Option (List ℕ)) (failed : Type 0) (F G : Saw)
+    → line_of p.place text ≡ Ok line → cleared ≡ [] → shown ≡ told → LinePlays (Err stop) p gone line (told_so_far cleared F) (told_so_far told G) initial old now → BegunWritten stop result shown before after failed
+    → LineKeepsBytes p.place line old now → TextPlays (Err result) text number initial (replay_state p old before F) (replay_state q now after G) failed
+text_begun stop result text number p q gone initial old now line cleared told shown before after failed F G spelled clear same plays written kept = (
   text_keeps p.place text line old now spelled kept,
-  λ basis so_far s.
-      let there : PlayedAs basis (Err stop) gone so_far line (boards_told old (told_so_far [] F)) (boards_told now (told_so_far told G)) = subst (λ (xs : List ℕ). PlayedAs basis (Err stop) gone so_far line (boards_told old (told_so_far xs F)) (boards_told now (told_so_far told G))) clear (plays basis so_far s) in
+  λ table so_far s.
+      let basis = based_on table initial in
+      let there : PlayedAs basis (Err stop) gone so_far line (boards_told old (told_so_far [] F)) (boards_told now (told_so_far told G)) = subst (λ (xs : List ℕ). PlayedAs basis (Err stop) gone so_far line (boards_told old (told_so_far xs F)) (boards_told now (told_so_far told G))) clear (plays table so_far s) in
       let to : PlayedAs basis (Err stop) gone so_far line (boards_told old (told_so_far [] F)) (boards_told now (told_so_far shown G)) = subst (λ (xs : List ℕ). PlayedAs basis (Err stop) gone so_far line (boards_told old (told_so_far [] F)) (boards_told now (told_so_far xs G))) (sym same) there in
-      begun_as basis.table stop result text number p q so_far.lines so_far.world basis.boards old now before after failed F G line shown spelled (stop_as basis.table stop gone q so_far.lines so_far.world line (told_so_far [] F) (told_so_far shown G) basis.boards old now to) written,
+      begun_as table stop result text number p q so_far.lines so_far.world initial old now before after failed F G line shown spelled (stop_as table stop gone q so_far.lines so_far.world line (told_so_far [] F) (told_so_far shown G) initial old now to) written,
 )
 
 -- there was no memory for the place after a line that left the boards unchanged
-pub text_forgotten : (text : List ℕ) (number : ℕ) (p q : Player) (old now : List Device) (before : Option (List ℕ)) (failed : Type 0) (F G : Saw) → now ≡ old → StaysSeen F G → TextPlays (Err Memory) text number (replay_state p old before F) (replay_state q now before G) failed
-text_forgotten text number p q old now before failed F G same stays = (text_same p.place text old now same, λ basis so_far s. inl (record { boards = same; written = refl; seen = stays }))
+pub text_forgotten : (text : List ℕ) (number : ℕ) (p q : Player) (initial old now : List Device) (before : Option (List ℕ)) (failed : Type 0) (F G : Saw) → now ≡ old → StaysSeen F G → TextPlays (Err Memory) text number initial (replay_state p old before F) (replay_state q now before G) failed
+text_forgotten text number p q initial old now before failed F G same stays = (text_same p.place text old now same, λ table so_far s. inl (record { boards = same; written = refl; seen = stays }))
 
 -- the result if the next line was given and playing it had this result
-pub given_answer : (r : Result Bool Halt) (o : Option ℕ) (n : ℕ) (text : List ℕ) (old new : Reading) (at_end read_failed : Type 0) (Took : List ℕ → Type 0) (a b : ReplayState) (failed : Type 0) → o ≡ Some n → text ≡ new.text
-    → ((more : List ℕ) × Took more × NextAnswer (Ok o) (old.ahead ++ more) old new at_end read_failed) → GivenPlayed r (λ x. TextPlays x text n a b failed)
-    → (more : List ℕ) × Took more × NextPlayed r (bytes_taken (old.ahead ++ more) at_end) old new read_failed (AllAsBefore a b) (λ x t. TextPlays x t (old.number + 1) a b failed)
-given_answer r o n text old new at_end read_failed Took a b failed some same came played = (
+pub given_answer : (r : Result Bool Halt) (o : Option ℕ) (n : ℕ) (text : List ℕ) (old new : Reading) (at_end read_failed : Type 0) (Took : List ℕ → Type 0) (initial : List Device) (a b : ReplayState) (failed : Type 0) → o ≡ Some n → text ≡ new.text
+    → ((more : List ℕ) × Took more × NextAnswer (Ok o) (old.ahead ++ more) old new at_end read_failed) → GivenPlayed r (λ x. TextPlays x text n initial a b failed)
+    → (more : List ℕ) × Took more × NextPlayed r (bytes_taken (old.ahead ++ more) at_end) old new read_failed (AllAsBefore a b) (λ x t. TextPlays x t (old.number + 1) initial a b failed)
+given_answer r o n text old new at_end read_failed Took initial a b failed some same came played = (
   came.0,
   came.1,
-  given_next r o n text (old.ahead ++ came.0) old new at_end read_failed (AllAsBefore a b) (λ x t k. TextPlays x t k a b failed) some same came.2 played,
+  given_next r o n text (old.ahead ++ came.0) old new at_end read_failed (AllAsBefore a b) (λ x t k. TextPlays x t k initial a b failed) some same came.2 played,
 )
 
 -- ---- how a replay ends

@@ -14,7 +14,7 @@ use Rattle.dg_rules.specs.World.{World, store_at}
 use Rattle.dg_rules.specs.Events.{does, mote_of, trail_of}
 use Rattle.dg_rules.specs.Steps.{EndsRun}
 use Rattle.dg_world.specs.Boards.{BoardsEndure, WorldStands, BoardStopped}
-use Rattle.dg_world.specs.Counts.{NoneRose}
+use Rattle.dg_world.specs.Counts.{AreSteady}
 use Rattle.dg_world.specs.Applied.{SameBoards}
 use Rattle.dg_world.specs.Mounted.{NoVolumeAt, MountedTo}
 use Rattle.dg_script.specs.Items.{Item, Applies}
@@ -97,12 +97,12 @@ pub record StoppedIn (motes : ℕ) (rest : List Line) (left : List Item) (last :
 -- ---- a replay that ends before its script
 
 -- One of the boards of the motes, which are used as they are, is not a volume. Those before it are volumes, and were not stopped
--- on entry. All were only read, those after it are as before, and no board's count rose.
+-- on entry. All were only read, those after it are as before. No board stopped, and no board's count rose.
 pub record NoVolumeIn (motes : ℕ) (old new : List Device) : Type 0 where
   pub board : ℕ
   pub at : NoVolumeAt board motes old new
   pub read : SameBoards old new
-  pub calm : NoneRose old new
+  pub calm : AreSteady old new
 
 -- the first of these items is an event
 pub record EventNext (items : List Item) : Type 0 where
@@ -116,8 +116,8 @@ abbrev pub InSome : Option World → (World → Type 0) → Type 0
 InSome None P = ⊥
 InSome (Some w) P = P w
 
--- The next item is an event, which finds no image to start. The boards stand for the world in which the run ends, and no board's
--- count rose.
+-- The next item is an event, which finds no image to start. The boards stand for the world in which the run ends. No board
+-- stopped, and no board's count rose.
 pub record LacksImage (w : World) (left : List Item) (old new : List Device) : Type 0 where
   pub next : EventNext left
   pub after : World

@@ -21,7 +21,7 @@ use Rattle.dg_world.specs.Applied.{SameBoards}
 use Rattle.dg_world.specs.Mounted.{StandFor, MountStops, NoVolumeAt}
 use Rattle.dg_world.specs.declared.mount.MountStopped.{MountStopped}
 use Rattle.dg_world.specs.declared.mount.MountStopped.TheVariants.{Flash, NotAVolume as NoVolume}
-use Rattle.dg_world.specs.Counts.{NoneRose}
+use Rattle.dg_world.specs.Counts.{AreSteady}
 use Rattle.dg_world.specs.Formatted.{FirstBoards, FormatStops}
 use Rattle.dg_world.specs.declared.format.FormatStopped.{FormatStopped}
 use Rattle.dg_world.specs.Worlds.{IsWorld}
@@ -263,7 +263,7 @@ PlayedAs basis (Err WriteFault) q behind line a b = ⊥
 pub record FormattedAs (result : Result (Unit {0}) FormatStopped) (motes : ℕ) (chip : Store) (old new : List Device) : Type
     0 where
   pub formatted : OnOk result ((m : ℕ) (d : Device) → m < motes → slice_get new m ≡ Some d → Stands d.image chip)
-  pub calm : OnOk result (NoneRose old new)
+  pub calm : OnOk result (AreSteady old new)
   pub awake : OnOk result ((m : ℕ) (d : Device) → m < motes → slice_get old m ≡ Some d → d.stopped ≡ false)
   pub others : FirstBoards motes old new
   pub stopped : (e : FormatStopped) → result ≡ Err e → FormatStops e.board motes chip old new
@@ -277,9 +277,9 @@ mount_stop (NoVolume board) = NotAVolume
 pub record MountedAs (result : Result (Unit {0}) MountStopped) (motes : ℕ) (old new : List Device) : Type 0 where
   pub stands : OnOk result ((stores : List Store) × StandFor motes stores new
       × ((m : ℕ) → m < motes → IsShaped (store_of stores m)))
-  pub calm : OnOk result (NoneRose old new)
+  pub calm : OnOk result (AreSteady old new)
   pub awake : OnOk result ((m : ℕ) (d : Device) → m < motes → slice_get old m ≡ Some d → d.stopped ≡ false)
   pub read : SameBoards old new
   pub others : (m : ℕ) → motes ≤ m → slice_get new m ≡ slice_get old m
   pub stopped : (board : ℕ) → result ≡ Err (Flash board) → MountStops board motes old new
-  pub no_volume : (board : ℕ) → result ≡ Err (NoVolume board) → NoVolumeAt board motes old new × NoneRose old new
+  pub no_volume : (board : ℕ) → result ≡ Err (NoVolume board) → NoVolumeAt board motes old new × AreSteady old new

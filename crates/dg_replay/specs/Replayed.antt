@@ -284,7 +284,7 @@ pub record Replayed (table : List Row) (status : Status) (a b : Outside) : Type 
   pub near : ReadsNear status (ending_of (length a.boards) input) input came text
   -- nothing after the ending was done
   pub limits : InBounds (length a.boards) came.done (map item_played came.played)
-  -- where the boards were used as they are, they stood for the stores from which the run begins
+  -- where the boards were used as they are, none was stopped, and they stood for the stores from which the run begins
   pub stood : UsesBoards came.done → StandFor (motes_in came.done) came.ground.stores a.boards
   -- the boards of the motes, except one that is stopped, stand for that world's stores, and all other boards are as before
   pub boards : BoardsLeft status came a.boards b.boards

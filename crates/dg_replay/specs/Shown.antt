@@ -14,7 +14,9 @@ use Rattle.dg_rules.specs.Runs.{Played, Plays, ItemStep}
 use Rattle.dg_rules.specs.Sizes.{most_motes, most_events}
 use Rattle.dg_rules.specs.Steps.{EndsRun}
 use Rattle.dg_rules.specs.World.{World, first_world, store_at}
+use Rattle.dg_world.specs.Applied.{SameBoards}
 use Rattle.dg_world.specs.Applying.{ApplyDone, IsOf, step_of}
+use Rattle.dg_world.specs.Counts.{AreAwake}
 use Rattle.dg_world.specs.Deployments.{Deployment}
 use Rattle.dg_world.specs.Mounted.{StandFor}
 use Rattle.dg_replay.specs.Items.{is_event}
@@ -34,9 +36,10 @@ stores_in (Some w) = map (λ x. x.store) w.sites
 
 -- ---- the boards
 
--- The boards of this many motes are used from now on, and stand for these stores, each in its shape. If they were formatted with
--- this many commits counted as spent, they are fresh.
-pub record IsPlaced (motes : ℕ) (used : Option ℕ) (boards : List Device) (stores : List Store) : Type 0 where
+-- The boards of this many motes are used from now on. They are not stopped, and stand for these stores, each in its shape. If
+-- they were formatted with this many commits counted as spent, they are fresh. If they are used as they are, the boards with
+-- which the replay began were only read.
+pub record IsPlaced (motes : ℕ) (used : Option ℕ) (initial boards : List Device) (stores : List Store) : Type 0 where
   pub some : 1 ≤ motes
   pub few : motes ≤ most_motes
   pub enough : motes ≤ length boards
@@ -44,6 +47,7 @@ pub record IsPlaced (motes : ℕ) (used : Option ℕ) (boards : List Device) (st
   pub formatted : (n : ℕ) → used ≡ Some n → (name : List ℕ) × (content : List ℕ)
       × (stores ≡ replicate motes (fresh name content n))
   pub shaped : used ≡ None → (m : ℕ) → m < motes → IsShaped (store_of stores m)
+  pub same : used ≡ None → SameBoards initial boards
 
 -- ---- events
 
@@ -58,7 +62,7 @@ pub record LeadTo (stores : List Store) (events : List Played) (w : World) : Typ
   pub motes : length w.sites ≡ length stores
   pub counted : w.events ≡ length events
 
--- An event was applied, which left this world with its boards, and these lines are reported of it.
+-- An event was applied, which left this world with its boards, none of which is stopped, and these lines are reported of it.
 pub record IsApplied (p : Played) (event : Event) (reported : Bool) (after : Deployment) : Type 0 where
   pub cut : Option PowerCut
   pub item : p.item ≡ Applies (step_of event cut) reported
@@ -69,16 +73,18 @@ pub record IsApplied (p : Played) (event : Event) (reported : Bool) (after : Dep
   pub was : IsOf before p.before
   pub none : before.reported ≡ []
   pub stands : IsOf after p.after
+  pub awake : AreAwake (length p.after.sites) after.boards
   -- everything else that is promised of applying it
   pub done : ApplyDone (Ok tt) (step_of event cut) reported before after
 
--- An event found no image to start. The boards stand for the world in which the run ends.
+-- An event found no image to start. The boards stand for the world in which the run ends, and none is stopped.
 pub record IsEnding (w : World) (event : Event) (boards : List Device) : Type 0 where
   pub few : w.events < most_events
   pub cut : Option PowerCut
   pub after : World
   pub ends : EndsRun w (step_of event cut) after
   pub stand : (m : ℕ) (d : Device) → m < length after.sites → slice_get boards m ≡ Some d → Stands d.image (store_at after m)
+  pub awake : AreAwake (length after.sites) boards
 
 -- ---- runs that continue
 

@@ -37,10 +37,11 @@ pub fn replay<S: Source, K: Sink, N: Nor, W: Watcher<N>>(
     ensures done { (rest : Outside) → ReplayDone result
         (with_boards (map N.device boards.old.items) (with_output (K.Sink, out.old) (with_input (S.Source, input.old) rest)))
         (with_boards (map N.device boards.new.items) (with_output (K.Sink, out.new) (with_input (S.Source, input.new) rest))) }
-    ensures seen { (rest : Outside) (table : List Row) → W.saw watcher.old [] [] → (x : Replayed table result
+    ensures seen { (rest : Outside) (table : List Row) → W.saw watcher.old (map N.device boards.old.items) [] []
+        → (x : Replayed table result
         (with_boards (map N.device boards.old.items) (with_output (K.Sink, out.old) (with_input (S.Source, input.old) rest)))
         (with_boards (map N.device boards.new.items) (with_output (K.Sink, out.new) (with_input (S.Source, input.new) rest))))
-        × IsSeen (W.saw watcher.new) x.came }
+        × IsSeen (W.saw watcher.new (map N.device boards.old.items)) x.came }
     // The arrays of bytes that are alive at once in a mote's call have no more than 256 bytes in all. The value of a mote holds
     // no array of bytes except the outbox and its sets.
     ensures buffers { BuffersFit × ValuesAreSmall }

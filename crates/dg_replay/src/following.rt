@@ -2,11 +2,12 @@
 ghost use Rattle.std.specs.Prelude.{◌≡◌, ◌≢◌, ◌≤◌, ◌+◌, [], ℕ, List, ◌++◌, map, Err};
 ghost use Rattle.dg_words.specs.Counts.{Rose};
 ghost use Rattle.dg_base.specs.Outside.{Takes, AtEnd};
+ghost use Rattle.dg_nor.specs.Device.{Device};
 ghost use Rattle.dg_object.specs.Object.{Row};
 ghost use Rattle.dg_replay.specs.Following.{HaltedAs, NextPlayed, AllAsBefore};
 ghost use Rattle.dg_replay.specs.Playing.{Stood, Ready};
 ghost use Rattle.dg_replay.specs.Replaying.{TextAnswer, InputAnswer};
-ghost use Rattle.dg_replay.specs.Stages.{Baseline, DoneSoFar, replay_state, line_read, span, failures};
+ghost use Rattle.dg_replay.specs.Stages.{based_on, DoneSoFar, replay_state, line_read, span, failures};
 ghost use Rattle.dg_replay.specs.inner.Words.{bytes_taken};
 ghost use Rattle.dg_replay.specs.Untouched.{TextKeepsBytes};
 
@@ -49,18 +50,18 @@ fn play_next<S: Source, K: Sink, N: Nor, W: Watcher<N>>(
     watcher: &mut W,
 ) -> Result<bool, Halt>
     requires { Ready player.old (map N.device boards.old.items) }
-    ensures answer { (more : List ℕ) × Takes (S.left input.old) (S.left input.new) more
+    ensures answer { (initial : List Device) → (more : List ℕ) × Takes (S.left input.old) (S.left input.new) more
         × NextPlayed result (bytes_taken (reader.old.ahead ++ more) (AtEnd (S.left input.new))) reader.old reader.new
         (Rose (S.faults input.old) (S.faults input.new))
         (AllAsBefore
-        (replay_state player.old (map N.device boards.old.items) (K.written out.old) (W.saw watcher.old))
-        (replay_state player.new (map N.device boards.new.items) (K.written out.new) (W.saw watcher.new)))
+        (replay_state player.old (map N.device boards.old.items) (K.written out.old) (W.saw watcher.old initial))
+        (replay_state player.new (map N.device boards.new.items) (K.written out.new) (W.saw watcher.new initial)))
         (λ r text. TextKeepsBytes player.old.place text (map N.device boards.old.items) (map N.device boards.new.items)
-        × ((basis : Baseline) (behind : DoneSoFar)
-        → Stood player.old behind.lines behind.world basis.boards (map N.device boards.old.items)
-        → TextAnswer basis r (line_read text (reader.old.number + 1)) behind
-        (replay_state player.old (map N.device boards.old.items) (K.written out.old) (W.saw watcher.old))
-        (replay_state player.new (map N.device boards.new.items) (K.written out.new) (W.saw watcher.new))
+        × ((table : List Row) (behind : DoneSoFar)
+        → Stood player.old behind.lines behind.world initial (map N.device boards.old.items)
+        → TextAnswer (based_on table initial) r (line_read text (reader.old.number + 1)) behind
+        (replay_state player.old (map N.device boards.old.items) (K.written out.old) (W.saw watcher.old initial))
+        (replay_state player.new (map N.device boards.new.items) (K.written out.new) (W.saw watcher.new initial))
         (Rose (K.faults out.old) (K.faults out.new)))) }
     ensures reads { S.faults input.old ≤ S.faults input.new }
     ensures unread { result ≢ Err Halt.ReadFault → S.faults input.new ≡ S.faults input.old }
@@ -105,7 +106,7 @@ pub fn play_lines<S: Source, K: Sink, N: Nor, W: Watcher<N>>(
     ensures answer { (bytes : List ℕ) × Takes (S.left input.old) (S.left input.new) bytes
         × ((table : List Row) → InputAnswer table result (bytes_taken bytes (AtEnd (S.left input.new)))
         (span (map N.device boards.old.items) (map N.device boards.new.items) (K.written out.old) (K.written out.new)
-        (W.saw watcher.old) (W.saw watcher.new))
+        (W.saw watcher.old (map N.device boards.old.items)) (W.saw watcher.new (map N.device boards.old.items)))
         (failures (Rose (S.faults input.old) (S.faults input.new)) (Rose (K.faults out.old) (K.faults out.new)))) }
     ensures reads { S.faults input.old ≤ S.faults input.new }
     ensures unread { result ≢ Err Halt.ReadFault → S.faults input.new ≡ S.faults input.old }

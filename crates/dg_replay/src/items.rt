@@ -71,8 +71,8 @@ pub fn play_image<N: Nor, W: Watcher<N>>(
     requires fits { IsDeclared (row_of image version name content) }
     ensures { (boards initial : List Device) (w : RuleWorld) → IsWorld world.old boards w → WorldStands w initial boards
         → ItemsPlayedAs result w (Declares (row_of image version name content) ∷ []) world.new initial
-        (told_so_far line_report.old.text.items (W.saw watcher.old))
-        (boards_told boards (told_so_far line_report.new.text.items (W.saw watcher.new))) }
+        (told_so_far line_report.old.text.items (W.saw watcher.old initial))
+        (boards_told boards (told_so_far line_report.new.text.items (W.saw watcher.new initial))) }
 {
     line_report.reports.clear();
     match world.declare(image, version, name, content) {
@@ -110,9 +110,9 @@ pub fn play_event<N: Nor, W: Watcher<N>>(
     ensures played { (w : RuleWorld) (initial : List Device) → IsWorld world.old (map N.device boards.old.items) w
         → WorldStands w initial (map N.device boards.old.items)
         → ItemsPlayedAs result w (Applies (step_of event.now (option_copied cut.entry)) reported ∷ []) world.new initial
-        (told_so_far line_report.old.text.items (W.saw watcher.old))
+        (told_so_far line_report.old.text.items (W.saw watcher.old initial))
         (boards_told (map N.device boards.new.items)
-        (told_so_far line_report.new.text.items (W.saw watcher.new))) }
+        (told_so_far line_report.new.text.items (W.saw watcher.new initial))) }
     ensures kept { KeepBytes (Applies (step_of event.now (option_copied cut.entry)) reported ∷ []) (map N.device boards.old.items)
         (map N.device boards.new.items) }
 {

@@ -1,5 +1,6 @@
 //! Plays the lines of a script over its world.
 ghost use Rattle.std.specs.Prelude.{◌≡◌, ◌<◌, ◌≤◌, ℕ, true, false, List, [], Err, map, length, OnOk, OnErr};
+ghost use Rattle.dg_nor.specs.Device.{Device};
 ghost use Rattle.dg_volume.specs.Store.{fresh};
 ghost use Rattle.dg_script.specs.Fitting.{IsGoldenImage};
 ghost use Rattle.dg_script.specs.Places.{first_place, place_after};
@@ -49,8 +50,9 @@ fn play_motes<N: Nor, W: Watcher<N>>(
     ensures counted { OnOk result (motes ≤ length boards.now.items) }
     ensures missing { (stop : Stop) → result ≡ Err stop → (stop ≡ Stop.NoBoard motes (length boards.now.items))
         × (length boards.now.items < motes) }
-    ensures begun { W.saw watcher.old [] [] → W.saw watcher.new [] [] }
-    ensures unshown { OnErr result (StaysSeen (W.saw watcher.old) (W.saw watcher.new)) }
+    ensures begun { (initial : List Device) → W.saw watcher.old initial [] [] → W.saw watcher.new initial [] [] }
+    ensures unshown { (initial : List Device)
+        → OnErr result (StaysSeen (W.saw watcher.old initial) (W.saw watcher.new initial)) }
 {
     let have = boards.len();
     if have < usize::from(motes) {
@@ -113,9 +115,9 @@ fn play_golden<N: Nor, W: Watcher<N>>(
         → Stood player.old behind.lines behind.world basis.boards (map N.device boards.old.items)
         → PlayedAs basis result (gone_on player.new (Line.Golden name.now used content.now)) behind
         (Line.Golden name.now used content.now)
-        (boards_told (map N.device boards.old.items) (told_so_far text (W.saw watcher.old)))
+        (boards_told (map N.device boards.old.items) (told_so_far text (W.saw watcher.old basis.boards)))
         (boards_told (map N.device boards.new.items)
-        (told_so_far text (W.saw watcher.new))) }
+        (told_so_far text (W.saw watcher.new basis.boards))) }
     ensures place { player.new.place ≡ player.old.place }
 {
     let motes = player.place.motes;
@@ -172,9 +174,9 @@ fn play_boards<N: Nor, W: Watcher<N>>(
     ensures played { (basis : Baseline) (behind : DoneSoFar) (text : List ℕ)
         → Stood player.old behind.lines behind.world basis.boards (map N.device boards.old.items)
         → PlayedAs basis result (gone_on player.new Line.Boards) behind Line.Boards
-        (boards_told (map N.device boards.old.items) (told_so_far text (W.saw watcher.old)))
+        (boards_told (map N.device boards.old.items) (told_so_far text (W.saw watcher.old basis.boards)))
         (boards_told (map N.device boards.new.items)
-        (told_so_far text (W.saw watcher.new))) }
+        (told_so_far text (W.saw watcher.new basis.boards))) }
     ensures place { player.new.place ≡ player.old.place }
     ensures kept { KeepBytes [] (map N.device boards.old.items) (map N.device boards.new.items) }
 {
@@ -214,13 +216,13 @@ pub fn play_line<N: Nor, W: Watcher<N>>(
     ensures played { (basis : Baseline) (behind : DoneSoFar)
         → Stood player.old behind.lines behind.world basis.boards (map N.device boards.old.items)
         → PlayedAs basis result (gone_on player.new line.new) behind line.old
-        (boards_told (map N.device boards.old.items) (told_so_far line_report.old.text.items (W.saw watcher.old)))
+        (boards_told (map N.device boards.old.items) (told_so_far line_report.old.text.items (W.saw watcher.old basis.boards)))
         (boards_told (map N.device boards.new.items)
-        (told_so_far line_report.new.text.items (W.saw watcher.new))) }
+        (told_so_far line_report.new.text.items (W.saw watcher.new basis.boards))) }
     ensures behind { place_after player.new.place line.new ≡ place_after player.old.place line.old }
     ensures linked { (a b : ℕ) → line.new ≡ Line.Link a b → boards.new.items ≡ boards.old.items }
-    ensures unshown { (a b : ℕ) → line.new ≡ Line.Link a b
-        → StaysSeen (W.saw watcher.old) (W.saw watcher.new) }
+    ensures unshown { (a b : ℕ) (initial : List Device) → line.new ≡ Line.Link a b
+        → StaysSeen (W.saw watcher.old initial) (W.saw watcher.new initial) }
     ensures kept { LineKeepsBytes player.old.place line.old (map N.device boards.old.items) (map N.device boards.new.items) }
 {
     match line {

@@ -43,9 +43,9 @@ pub fn play_round<N: Nor, W: Watcher<N>>(
     ensures played { (w : RuleWorld) (initial : List Device) → IsWorld world.old (map N.device boards.old.items) w
         → WorldStands w initial (map N.device boards.old.items)
         → ItemsPlayedAs result w (unreported (round a b)) world.new initial
-        (told_so_far line_report.old.text.items (W.saw watcher.old))
+        (told_so_far line_report.old.text.items (W.saw watcher.old initial))
         (boards_told (map N.device boards.new.items)
-        (told_so_far line_report.new.text.items (W.saw watcher.new))) }
+        (told_so_far line_report.new.text.items (W.saw watcher.new initial))) }
     ensures kept { KeepBytes (unreported (round a b)) (map N.device boards.old.items)
         (map N.device boards.new.items) }
 {
@@ -72,9 +72,9 @@ fn play_ticks<N: Nor, W: Watcher<N>>(
     ensures played { (w : RuleWorld) (initial : List Device) → IsWorld world.old (map N.device boards.old.items) w
         → WorldStands w initial (map N.device boards.old.items)
         → ItemsPlayedAs result w (unreported (times count (paced mote ∷ []))) world.new initial
-        (told_so_far line_report.old.text.items (W.saw watcher.old))
+        (told_so_far line_report.old.text.items (W.saw watcher.old initial))
         (boards_told (map N.device boards.new.items)
-        (told_so_far line_report.new.text.items (W.saw watcher.new))) }
+        (told_so_far line_report.new.text.items (W.saw watcher.new initial))) }
     ensures kept { KeepBytes (unreported (times count (paced mote ∷ []))) (map N.device boards.old.items)
         (map N.device boards.new.items) }
 {
@@ -98,9 +98,9 @@ fn play_tick<N: Nor, W: Watcher<N>>(
     ensures played { (w : RuleWorld) (initial : List Device) → IsWorld world.old (map N.device boards.old.items) w
         → WorldStands w initial (map N.device boards.old.items)
         → ItemsPlayedAs result w (unreported (paced mote ∷ [])) world.new initial
-        (told_so_far line_report.old.text.items (W.saw watcher.old))
+        (told_so_far line_report.old.text.items (W.saw watcher.old initial))
         (boards_told (map N.device boards.new.items)
-        (told_so_far line_report.new.text.items (W.saw watcher.new))) }
+        (told_so_far line_report.new.text.items (W.saw watcher.new initial))) }
     ensures kept { KeepBytes (unreported (paced mote ∷ [])) (map N.device boards.old.items)
         (map N.device boards.new.items) }
 {
@@ -127,9 +127,9 @@ fn play_heard<N: Nor, W: Watcher<N>>(
     ensures played { (w : RuleWorld) (initial : List Device) → IsWorld world.old (map N.device boards.old.items) w
         → WorldStands w initial (map N.device boards.old.items)
         → ItemsPlayedAs result w (unreported (passed from to ∷ [])) world.new initial
-        (told_so_far line_report.old.text.items (W.saw watcher.old))
+        (told_so_far line_report.old.text.items (W.saw watcher.old initial))
         (boards_told (map N.device boards.new.items)
-        (told_so_far line_report.new.text.items (W.saw watcher.new))) }
+        (told_so_far line_report.new.text.items (W.saw watcher.new initial))) }
     ensures kept { KeepBytes (unreported (passed from to ∷ [])) (map N.device boards.old.items)
         (map N.device boards.new.items) }
 {
@@ -157,9 +157,9 @@ fn play_request<N: Nor, W: Watcher<N>>(
     ensures played { (w : RuleWorld) (initial : List Device) → IsWorld world.old (map N.device boards.old.items) w
         → WorldStands w initial (map N.device boards.old.items)
         → ItemsPlayedAs result w (unreported (passed a b ∷ paced b ∷ passed b a ∷ [])) world.new initial
-        (told_so_far line_report.old.text.items (W.saw watcher.old))
+        (told_so_far line_report.old.text.items (W.saw watcher.old initial))
         (boards_told (map N.device boards.new.items)
-        (told_so_far line_report.new.text.items (W.saw watcher.new))) }
+        (told_so_far line_report.new.text.items (W.saw watcher.new initial))) }
     ensures kept { KeepBytes (unreported (passed a b ∷ paced b ∷ passed b a ∷ [])) (map N.device boards.old.items)
         (map N.device boards.new.items) }
 {
@@ -184,9 +184,9 @@ fn play_packet<N: Nor, W: Watcher<N>>(
     ensures played { (w : RuleWorld) (initial : List Device) → IsWorld world.old (map N.device boards.old.items) w
         → WorldStands w initial (map N.device boards.old.items)
         → ItemsPlayedAs result w (unreported (paced a ∷ passed a b ∷ [])) world.new initial
-        (told_so_far line_report.old.text.items (W.saw watcher.old))
+        (told_so_far line_report.old.text.items (W.saw watcher.old initial))
         (boards_told (map N.device boards.new.items)
-        (told_so_far line_report.new.text.items (W.saw watcher.new))) }
+        (told_so_far line_report.new.text.items (W.saw watcher.new initial))) }
     ensures kept { KeepBytes (unreported (paced a ∷ passed a b ∷ [])) (map N.device boards.old.items)
         (map N.device boards.new.items) }
 {
@@ -210,9 +210,9 @@ fn play_packets<N: Nor, W: Watcher<N>>(
     ensures played { (w : RuleWorld) (initial : List Device) → IsWorld world.old (map N.device boards.old.items) w
         → WorldStands w initial (map N.device boards.old.items)
         → ItemsPlayedAs result w (unreported (times packets (paced a ∷ passed a b ∷ []))) world.new initial
-        (told_so_far line_report.old.text.items (W.saw watcher.old))
+        (told_so_far line_report.old.text.items (W.saw watcher.old initial))
         (boards_told (map N.device boards.new.items)
-        (told_so_far line_report.new.text.items (W.saw watcher.new))) }
+        (told_so_far line_report.new.text.items (W.saw watcher.new initial))) }
     ensures kept { KeepBytes (unreported (times packets (paced a ∷ passed a b ∷ []))) (map N.device boards.old.items)
         (map N.device boards.new.items) }
 {
@@ -236,9 +236,9 @@ fn play_both<N: Nor, W: Watcher<N>>(
     ensures played { (w : RuleWorld) (initial : List Device) → IsWorld world.old (map N.device boards.old.items) w
         → WorldStands w initial (map N.device boards.old.items)
         → ItemsPlayedAs result w (unreported (round a b ++ round b a)) world.new initial
-        (told_so_far line_report.old.text.items (W.saw watcher.old))
+        (told_so_far line_report.old.text.items (W.saw watcher.old initial))
         (boards_told (map N.device boards.new.items)
-        (told_so_far line_report.new.text.items (W.saw watcher.new))) }
+        (told_so_far line_report.new.text.items (W.saw watcher.new initial))) }
     ensures kept { KeepBytes (unreported (round a b ++ round b a)) (map N.device boards.old.items)
         (map N.device boards.new.items) }
 {
@@ -261,9 +261,9 @@ fn play_sweep<N: Nor, W: Watcher<N>>(
     ensures played { (w : RuleWorld) (initial : List Device) → IsWorld world.old (map N.device boards.old.items) w
         → WorldStands w initial (map N.device boards.old.items)
         → ItemsPlayedAs result w (unreported (sweep links.now)) world.new initial
-        (told_so_far line_report.old.text.items (W.saw watcher.old))
+        (told_so_far line_report.old.text.items (W.saw watcher.old initial))
         (boards_told (map N.device boards.new.items)
-        (told_so_far line_report.new.text.items (W.saw watcher.new))) }
+        (told_so_far line_report.new.text.items (W.saw watcher.new initial))) }
     ensures kept { KeepBytes (unreported (sweep links.now)) (map N.device boards.old.items)
         (map N.device boards.new.items) }
 {
@@ -288,9 +288,9 @@ pub fn play_sweeps<N: Nor, W: Watcher<N>>(
     ensures played { (w : RuleWorld) (initial : List Device) → IsWorld world.old (map N.device boards.old.items) w
         → WorldStands w initial (map N.device boards.old.items)
         → ItemsPlayedAs result w (unreported (times count (sweep links.now))) world.new initial
-        (told_so_far line_report.old.text.items (W.saw watcher.old))
+        (told_so_far line_report.old.text.items (W.saw watcher.old initial))
         (boards_told (map N.device boards.new.items)
-        (told_so_far line_report.new.text.items (W.saw watcher.new))) }
+        (told_so_far line_report.new.text.items (W.saw watcher.new initial))) }
     ensures kept { KeepBytes (unreported (times count (sweep links.now))) (map N.device boards.old.items)
         (map N.device boards.new.items) }
 {

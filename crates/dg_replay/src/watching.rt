@@ -1,5 +1,6 @@
 //! Who watches a replay.
 ghost use Rattle.std.specs.Prelude.{⊤, List, [], ◌∷◌, ◌++◌, map};
+ghost use Rattle.dg_nor.specs.Device.{Device};
 ghost use Rattle.dg_rules.specs.Runs.{Played};
 ghost use Rattle.dg_rules.specs.World.{World as RuleWorld};
 ghost use Rattle.dg_volume.specs.Store.{Store};
@@ -14,23 +15,24 @@ use dg_world::World;
 /// Watches a replay: it is shown each event after the boards, and changes nothing of the replay. A method that does nothing
 /// costs nothing.
 pub trait Watcher<N: Nor> {
-    // The motes' chips began with these stores, none before the boards are used, and the watcher was shown exactly these events
-    // since then.
-    ghost saw: { Self → (stores : List Store) → (events : List Played) → Type 0 };
+    // The replay began with these boards. The motes' chips began with these stores, none before the boards are used, and the
+    // watcher was shown exactly these events since then.
+    ghost saw: { Self → (initial : List Device) → (stores : List Store) → (events : List Played) → Type 0 };
 
     /// The script has this many motes.
     fn begun(&mut self, motes: u8)
-        ensures { saw self.old [] [] → saw self.new [] [] };
+        ensures { (initial : List Device) → saw self.old initial [] [] → saw self.new initial [] [] };
 
     /// The boards of the motes are used from now on: they were formatted with this many commits counted as spent, or mounted as
     /// they are.
     fn placed(&mut self, motes: u8, used: Option<u32>, boards: &[N])
-        ensures { (stores : List Store) → IsPlaced motes used (map N.device boards.now) stores → saw self.old [] []
-            → saw self.new stores [] };
+        ensures { (initial : List Device) (stores : List Store) → IsPlaced motes used initial (map N.device boards.now) stores
+            → saw self.old initial [] [] → saw self.new initial stores [] };
 
     /// An image was not declared, since its version was declared with another name or content. A line reports this.
     fn taken(&mut self)
-        ensures { (stores : List Store) (events : List Played) → saw self.old stores events → saw self.new stores events };
+        ensures { (initial : List Device) (stores : List Store) (events : List Played) → saw self.old initial stores events
+            → saw self.new initial stores events };
 
     /// An event was applied, also if it was refused or cut, and these lines are reported of it. A frame that it sent is reported
     /// only if `reported` is true: the frames of rounds and sweeps are not.
@@ -42,14 +44,16 @@ pub trait Watcher<N: Nor> {
         reported: bool,
         reports: &[Report],
     )
-        ensures { (stores : List Store) (events : List Played) (p : Played) → LeadTo stores events p.before
+        ensures { (initial : List Device) (stores : List Store) (events : List Played) (p : Played)
+            → LeadTo stores events p.before
             → IsApplied p event.now reported (deployed world.now (map N.device boards.now) reports.now)
-            → saw self.old stores events → saw self.new stores (events ++ p ∷ []) };
+            → saw self.old initial stores events → saw self.new initial stores (events ++ p ∷ []) };
 
     /// An event found no image to start, and ends the replay. It is not one of those that were applied.
     fn ended(&mut self, event: &Event, boards: &[N])
-        ensures { (stores : List Store) (events : List Played) (w : RuleWorld) → LeadTo stores events w
-            → IsEnding w event.now (map N.device boards.now) → saw self.old stores events → saw self.new stores events };
+        ensures { (initial : List Device) (stores : List Store) (events : List Played) (w : RuleWorld) → LeadTo stores events w
+            → IsEnding w event.now (map N.device boards.now) → saw self.old initial stores events
+            → saw self.new initial stores events };
 }
 
 /// A watcher that does nothing.
@@ -57,7 +61,7 @@ pub trait Watcher<N: Nor> {
 pub struct Unwatched;
 
 impl<N: Nor> Watcher<N> for Unwatched {
-    ghost saw = { λ w stores events. ⊤ };
+    ghost saw = { λ w initial stores events. ⊤ };
 
     #[inline(always)]
     fn begun(&mut self, _motes: u8) {}

@@ -18,7 +18,7 @@ use Rattle.dg_rules.specs.Sizes.{most_motes}
 use Rattle.dg_script.specs.Places.{none_narrow}
 use Rattle.dg_rules.specs.World.{World, Site, first_world, store_at}
 use Rattle.dg_completion.specs.Completion.{page_count, pages_kept}
-use Rattle.dg_world.specs.Counts.{NoneRose}
+use Rattle.dg_world.specs.Counts.{AreSteady}
 use Rattle.dg_world.specs.Formatted.{FirstBoards, FormatStops}
 use Rattle.dg_outside.specs.Outside.{Outside}
 use Rattle.dg_trial.specs.Schedule.{SchedulePart, line_links, row_of_seed, opening, shaking, schedule, sweep_count}
@@ -66,11 +66,11 @@ trial_text motes pages seed v = summary_line motes pages (sweep_count motes page
 
 -- ---- what is done
 
--- The boards of the motes were formatted, and none of them was stopped on entry. All others are as before, and no count rose.
+-- The boards of the motes were formatted, and none of them was stopped on entry. All others are as before, and no board stopped.
 pub record Formatted (motes : ℕ) (old new : List Device) : Type 0 where
   pub stands : (m : ℕ) (d : Device) → m < motes → slice_get new m ≡ Some d → Stands d.image chip
   pub awake : (m : ℕ) (d : Device) → m < motes → slice_get old m ≡ Some d → d.stopped ≡ false
-  pub calm : NoneRose old new
+  pub calm : AreSteady old new
   pub boards : FirstBoards motes old new
 
 -- formatting stopped at a board

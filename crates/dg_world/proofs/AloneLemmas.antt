@@ -60,7 +60,7 @@ pub alone_done : (t : Outcome) (w : RuleWorld) (e : Event) (v u : Option Node) (
 alone_done t w e v u a b known stands ends =
     let told : List Report = filter (is_reported true) (outcome_lines (mote_of e) (outcome_of t)) in
     let s = step_outcome w (uncut_step e) true v u (sent_in t.outbox) (outcome_of t) a b [] told known stands (uncut (Ok (outcome_of t)) w (mote_of e) (does w e) v u a b ends) (frame_told t) refl in
-    record { ends = record { reported = told; done = s.ends }; endures = s.endures; count = s.count }
+    record { ends = record { reported = told; done = s.ends }; endures = s.endures; count = s.count.faults }
 
 pub alone_fails : (f : Fault) (t : Outcome) (w : RuleWorld) (e : Event) (v u : Option Node) (a b : Device) → OutcomeEnds (Err (halt_of f t.before)) w (mote_of e) (does w e) (host a v) (host b u) → PlaysAlone (Err f) w e u a b
 alone_fails fault.Stopped t w e v u a b ends =
@@ -69,7 +69,7 @@ alone_fails fault.Stopped t w e v u a b ends =
 alone_fails fault.NotAVolume t w e v u a b ends = absurd ends
 alone_fails fault.NoImage t w e v u a b ends =
     let p = uncut (Err NoImage) w (mote_of e) (does w e) v u a b ends in
-    record { ends = p.ends; endures = p.endures; count = p.count }
+    record { ends = p.ends; endures = p.endures; count = p.count.faults }
 
 -- by what its call answered
 pub alone_ok : (r : Result (Unit {0}) Fault) (t : Outcome) (w : RuleWorld) (e : Event) (v u : Option Node) (a b : Device) → r ≡ Ok tt → mote_of e < length w.sites → SiteStands a v (site w (mote_of e)) → OutcomeEnds (as_outcome r t) w (mote_of e) (does w e) (host a v) (host b u)

@@ -1,7 +1,7 @@
 -- From what an event did over a fuse to what its board holds.
 use Rattle.std.proofs.Common.{◌≡◌, ℕ, ◌+◌, ◌-◌, ◌≤◌, Bool, true, false, refl, ap, sym, ◌∙◌, subst, arith}
 use Rattle.std.specs.Prelude.{◌||◌, ◌&&◌, not, if◌then◌else◌, ◌∷◌, nat_le, Option, Some, None, Result, Ok, Err, IsSomeAnd}
-use Rattle.std.proofs.lemmas.Bool.{lt-leb, le-leb}
+use Rattle.std.proofs.lemmas.Bool.{lt-leb, le-leb, both_ways}
 use Rattle.std.proofs.lemmas.Option.{same_Some}
 use Rattle.std.specs.Borrow.{GName}
 use Rattle.dg_nor.specs.Device.{Device, Beneath, Endures, BeneathEndures, Ran, Halts, more}
@@ -18,7 +18,9 @@ use Rattle.dg_rules.specs.Events.{Does, Refuses, Goes, trail_of}
 use Rattle.dg_base.specs.declared.events.Cut.{Cut as PowerCut}
 use Rattle.dg_world.specs.inner.OutcomeEndings.{ReportsEffect, EventDone, EventStopped, OutcomeEnds}
 use Rattle.dg_world.specs.inner.CutEnds.{ended, EventIsWhole, EventIsCut, EventPlayed}
+use Rattle.dg_world.specs.Counts.{IsSteady}
 use Rattle.dg_world.specs.Cuts.{IsStopped}
+use Rattle.dg_world.proofs.CountLemmas.{steady_ran}
 use Rattle.dg_node.specs.Hosts.{host}
 use Rattle.dg_node.specs.declared.report.ChipReport.{ChipReport}
 use Rattle.dg_node.specs.declared.node.Node.{Node}
@@ -30,13 +32,13 @@ went_whole : (w : RuleWorld) (m : ℕ) (does : Does) (u : Option Node) (a b : De
 went_whole w m does u a b outcome x = record { effect = x.effect; goes = x.goes; whole = refl; tells = x.tells }
 
 pub uncut : (r : Result EventOutcome Halt) (w : RuleWorld) (m : ℕ) (does : Does) (v u : Option Node) (a b : Device) → OutcomeEnds r w m does (host a v) (host b u) → EventPlayed (ended false r) w m does None (host a v) (host b u)
-uncut (Ok (Refused why)) w m does v u a b x = record { ends = (x.0, x.1.same_image, x.2); endures = Endures_ran x.1.ran; count = x.1.ran.faults }
-uncut (Ok Unreported) w m does v u a b x = record { ends = went_whole w m does u a b Unreported x; endures = Endures_ran x.ran; count = x.ran.faults }
-uncut (Ok (Sends frame)) w m does v u a b x = record { ends = went_whole w m does u a b (Sends frame) x; endures = Endures_ran x.ran; count = x.ran.faults }
-uncut (Ok (Changes p q)) w m does v u a b x = record { ends = went_whole w m does u a b (Changes p q) x; endures = Endures_ran x.ran; count = x.ran.faults }
-uncut (Ok (Starts p)) w m does v u a b x = record { ends = went_whole w m does u a b (Starts p) x; endures = Endures_ran x.ran; count = x.ran.faults }
+uncut (Ok (Refused why)) w m does v u a b x = record { ends = (x.0, x.1.same_image, x.2); endures = Endures_ran x.1.ran; count = steady_ran x.1.ran }
+uncut (Ok Unreported) w m does v u a b x = record { ends = went_whole w m does u a b Unreported x; endures = Endures_ran x.ran; count = steady_ran x.ran }
+uncut (Ok (Sends frame)) w m does v u a b x = record { ends = went_whole w m does u a b (Sends frame) x; endures = Endures_ran x.ran; count = steady_ran x.ran }
+uncut (Ok (Changes p q)) w m does v u a b x = record { ends = went_whole w m does u a b (Changes p q) x; endures = Endures_ran x.ran; count = steady_ran x.ran }
+uncut (Ok (Starts p)) w m does v u a b x = record { ends = went_whole w m does u a b (Starts p) x; endures = Endures_ran x.ran; count = steady_ran x.ran }
 uncut (Err (Stopped before)) w m does v u a b x = record { ends = record { stopped = x.stops.halts.stopped; done = x.stops.done; within = x.stops.halts.within; uncut = tt; leaves = x.stops.leaves }; endures = Endures_halts x.stops.halts; count = tt }
-uncut (Err NoImage) w m does v u a b x = record { ends = record { effect = x.effect; goes = x.goes; none = x.none; whole = refl; stands = x.stands }; endures = Endures_ran x.ran; count = x.ran.faults }
+uncut (Err NoImage) w m does v u a b x = record { ends = record { effect = x.effect; goes = x.goes; none = x.none; whole = refl; stands = x.stands }; endures = Endures_ran x.ran; count = steady_ran x.ran }
 uncut (Err NotAVolume) w m does v u a b x = absurd x
 
 -- a halt without a cut is reported unchanged
@@ -58,7 +60,8 @@ pub record IsFused (cut : PowerCut) (a b x y : Device) : Type 0 where
   pub image_then : y.image ≡ b.image
   pub faults_then : y.blown ≡ false → y.faults ≡ b.faults
   pub beneath_then : y.beneath ≡ Some (beneath_of b)
-  pub stopped : y.blown ≡ false → y.stopped ≡ true → b.stopped ≡ true
+  pub stopped : x.stopped ≡ a.stopped
+  pub stopped_then : y.blown ≡ false → y.stopped ≡ b.stopped
 
 endures_by : (a b : Beneath) (x y : Option Beneath) → x ≡ Some a → y ≡ Some b → BeneathEndures x y → Endures a b
 endures_by a b x y ex ey h = subst (λ (o : Option Beneath). IsSomeAnd o (Endures a)) ey (subst (λ (o : Option Beneath). BeneathEndures o y) ex h)
@@ -71,8 +74,11 @@ not_reached cut n a b x y f r =
 fused_ran : {n : ℕ} (cut : PowerCut) (a b x y : Device) → IsFused cut a b x y → Ran n x y → Endures (beneath_of a) (beneath_of b)
 fused_ran cut a b x y f r = endures_by (beneath_of a) (beneath_of b) x.beneath y.beneath f.beneath f.beneath_then r.beneath
 
-fused_count : {n : ℕ} (cut : PowerCut) (a b x y : Device) → IsFused cut a b x y → Ran n x y → b.faults ≡ a.faults
-fused_count cut a b x y f r = sym (f.faults_then (r.blown ∙ f.whole)) ∙ r.faults ∙ f.faults
+fused_count : {n : ℕ} (cut : PowerCut) (a b x y : Device) → IsFused cut a b x y → Ran n x y → IsSteady a b
+fused_count cut a b x y f r = record {
+  faults = sym (f.faults_then (r.blown ∙ f.whole)) ∙ r.faults ∙ f.faults;
+  stopped = sym (f.stopped_then (r.blown ∙ f.whole)) ∙ r.stopped ∙ f.stopped;
+}
 
 fused_halts : {n done : ℕ} (cut : PowerCut) (a b x y : Device) → IsFused cut a b x y → Halts n done x y → Endures (beneath_of a) (beneath_of b)
 fused_halts cut a b x y f h = endures_by (beneath_of a) (beneath_of b) x.beneath y.beneath f.beneath f.beneath_then h.beneath
@@ -115,14 +121,22 @@ stopped_itself cut w m does a b x y before stopped f s = record {
   leaves = subst (λ c. MayLeave Stands IsNear (trail_of does (store_at w m)) s.stops.done c) f.image_then s.stops.leaves;
 }
 
+-- a device that is awake now was awake before, since a stopped one stays stopped
+steady_awake : (a b : Device) → Endures (beneath_of a) (beneath_of b) → b.stopped ≡ false → IsSteady a b
+steady_awake a b endures awake = record { faults = endures.calm awake; stopped = awake ∙ sym (awake_before a.stopped endures.stays) }
+  where
+    awake_before : (was : Bool) → (was ≡ true → b.stopped ≡ true) → was ≡ false
+    awake_before false stays = refl
+    awake_before true stays = absurd (both_ways b.stopped awake (stays refl))
+
 fused_stopped : (cut : PowerCut) (w : RuleWorld) (m : ℕ) (does : Does) (v u : Option Node) (a b x y : Device) (before : Option ChipReport) (blown stopped : Bool) → y.blown ≡ blown → b.stopped ≡ stopped → IsFused cut a b x y → EventStopped does (store_at w m) x y before
     → EventPlayed (ended (blown && not stopped) (Err (Stopped before))) w m does (Some cut) (host a v) (host b u)
 fused_stopped cut w m does v u a b x y before true false fired awake f s =
     let endures = fused_halts cut a b x y f s.stops.halts in
-    record { ends = blown_effect cut w m does a b x y before f fired s; endures = endures; count = endures.calm awake }
+    record { ends = blown_effect cut w m does a b x y before f fired s; endures = endures; count = steady_awake a b endures awake }
 fused_stopped cut w m does v u a b x y before true true fired stopped f s = record { ends = stopped_itself cut w m does a b x y before stopped f s; endures = fused_halts cut a b x y f s.stops.halts; count = tt }
 fused_stopped cut w m does v u a b x y before false stopped whole is f s =
-    record { ends = stopped_itself cut w m does a b x y before (f.stopped whole s.stops.halts.stopped) f s; endures = fused_halts cut a b x y f s.stops.halts; count = tt }
+    record { ends = stopped_itself cut w m does a b x y before (sym (f.stopped_then whole) ∙ s.stops.halts.stopped) f s; endures = fused_halts cut a b x y f s.stops.halts; count = tt }
 
 pub fused : (r : Result EventOutcome Halt) (cut : PowerCut) (w : RuleWorld) (m : ℕ) (does : Does) (v u : Option Node) (a b x y : Device) → IsFused cut a b x y → OutcomeEnds r w m does (host x v) (host y u) → EventPlayed (ended (y.blown && not b.stopped) r) w m does (Some cut) (host a v) (host b u)
 fused (Ok (Refused why)) cut w m does v u a b x y f t = record { ends = (t.0, sym f.image_then ∙ t.1.same_image ∙ f.image, t.2); endures = fused_ran cut a b x y f t.1.ran; count = fused_count cut a b x y f t.1.ran }
@@ -138,10 +152,6 @@ fused (Err NoImage) cut w m does v u a b x y f t =
       count = fused_count cut a b x y f t.ran;
     }
 fused (Err NotAVolume) cut w m does v u a b x y f t = absurd t
-
-or_second : (x y : Bool) → x ≡ false → (x || y) ≡ true → y ≡ true
-or_second false y e h = h
-or_second true y e h = cc
 
 -- a fuse over a board
 pub is_fused : {N : Type 0} (device : N → Device) (cut : PowerCut) (a : Device) (f g : Fused N) (name : GName) → 1 ≤ cut.after → fused_device device f ≡ record {
@@ -165,7 +175,8 @@ is_fused device cut a f g name counted made = record {
   image_then = refl;
   faults_then = λ whole. ap (λ (blown : Bool). (device (inner_of g)).faults + (if blown then 1 else 0)) whole ∙ omega arith;
   beneath_then = refl;
-  stopped = λ whole stopped. or_second g.blown (device (inner_of g)).stopped whole stopped;
+  stopped = ap (λ (d : Device). d.stopped) made;
+  stopped_then = λ whole. ap (λ (blown : Bool). blown || (device (inner_of g)).stopped) whole;
 }
 
 pub played_as : (r q : Result EventEnded Halt) (cut other : Option PowerCut) (w : RuleWorld) (m : ℕ) (does : Does) (v u : Option Node) (a b : Device) → r ≡ q → cut ≡ other → EventPlayed q w m does other (host a v) (host b u) → EventPlayed r w m does cut (host a v) (host b u)

@@ -41,6 +41,7 @@ use Rattle.dg_world.specs.declared.outcome.Fault.{Fault}
 use Rattle.dg_world.specs.declared.outcome.Fault.TheVariants as fault
 use Rattle.dg_world.specs.inner.Outcomes.{halt_of, stepped}
 use Rattle.dg_world.proofs.ChipReportLemmas.{cut_told}
+use Rattle.dg_world.proofs.CountLemmas.{steady_then}
 use Rattle.dg_world.proofs.StepLemmas.{ReadAndTold}
 use Rattle.dg_world.specs.inner.EventOutcomes.{EventOutcome, Halt, Refused, Unreported, Sends, Changes, Starts, Whole, Cut, Stopped, NotAVolume, NoImage}
 
@@ -206,7 +207,7 @@ step_cut {T} w x reported v u before q y a b c start mid end p is told off =
     record {
       ends = cut_done w x reported before b c start mid end p.ends l.0 off l.1.0.same_image;
       endures = Endures_then (beneath_of a) (beneath_of b) (beneath_of c) p.endures l.1.0.endures;
-      count = l.1.1 ∙ p.count;
+      count = steady_then p.count l.1.1;
     }
 
 cut_halts : (T : Type 0) (f : Fault) (w : RuleWorld) (x : Step) (reported : Bool) (v u o : Option Node) (before k : Option ChipReport) (a b c : Device) (start end : List Report) → (p : EventPlayed (Ok (Cut before)) w (mote_of x.event) (does w x.event) x.cut (host a v) (host b u))

@@ -14,10 +14,10 @@ use Rattle.dg_script.specs.Ranges.{EventInRange}
 use Rattle.dg_rules.specs.World.{World, store_at}
 use Rattle.dg_world.specs.Applied.{OneBoard, SameBoards}
 use Rattle.dg_world.specs.Boards.{BoardsEndure, WorldStands, BoardStopped}
-use Rattle.dg_world.specs.Counts.{NoneRose}
+use Rattle.dg_world.specs.Counts.{AreSteady, AreAwake}
 use Rattle.dg_world.specs.Worlds.{IsWorld}
 use Rattle.dg_world.specs.declared.world.World.{World as KeptWorld}
-use Rattle.dg_world.proofs.CountLemmas.{NoneRose_then}
+use Rattle.dg_world.proofs.CountLemmas.{AreSteady_then}
 
 pub rose_later : (a b c : ℕ) → a ≤ b → Rose b c → Rose a c
 rose_later a b c h rose = omega (arith, h, rose)
@@ -77,17 +77,28 @@ sites_same k boards w z a b = a.motes ∙ sym b.motes
 pub other_than : (m n k : ℕ) → n < k → k ≤ m → m ≡ n → ⊥
 other_than m n k low high e = omega arith
 
-pub stands_next : (u z : World) (v2 : KeptWorld) (mote : ℕ) (initial old new : List Device) → mote < length u.sites → length z.sites ≡ length u.sites → IsWorld v2 new z → OneBoard mote old new → NoneRose old new → WorldStands u initial old → WorldStands z initial new
+pub stands_next : (u z : World) (v2 : KeptWorld) (mote : ℕ) (initial old new : List Device) → mote < length u.sites → length z.sites ≡ length u.sites → IsWorld v2 new z → OneBoard mote old new → AreSteady old new → WorldStands u initial old → WorldStands z initial new
 stands_next u z v2 mote initial old new within count kept one calm b =
     record {
       all = boards_through initial old new b.all one.count one.endures;
-      calm = NoneRose_then initial old new b.all.count b.calm calm;
+      calm = AreSteady_then initial old new b.all.count b.calm calm;
       stands = λ m x inside is. (kept.sites m x inside is).stands;
       came = λ m x inside is. b.came m x (omega (arith, inside, count)) is;
       others = λ m past.
           let far : length u.sites ≤ m = omega (arith, past, count) in
           one.others m (other_than m mote (length u.sites) within far) ∙ b.others m far;
     }
+
+-- ---- boards that are awake
+
+pub stay_awake : (motes : ℕ) (old new : List Device) → length new ≡ length old → AreSteady old new → AreAwake motes old → AreAwake motes new
+stay_awake motes old new count steady awake m d within is =
+    let a : Device = get_or old m d in
+    let was : slice_get old m ≡ Some a = there new old m d (sym count) is in
+    (steady m a d was is).stopped ∙ awake m a within was
+
+pub standing_awake : (w : World) (initial now : List Device) → WorldStands w initial now → AreAwake (length w.sites) now
+standing_awake w initial now b = stay_awake (length w.sites) initial now b.all.count b.calm b.came
 
 -- ---- after a read
 
@@ -97,11 +108,11 @@ chips_read w initial old new same b m x inside is =
     let was : slice_get old m ≡ Some (get_or old m x) = there new old m x (sym same.count) is in
     subst (λ (image : List ℕ). Stands image (store_at w m)) (sym (same.images m (get_or old m x) x was is)) (b.stands m (get_or old m x) inside was)
 
-pub stands_read : (w : World) (initial old new : List Device) → SameBoards old new → NoneRose old new → ((m : ℕ) → length w.sites ≤ m → slice_get new m ≡ slice_get old m) → WorldStands w initial old → WorldStands w initial new
+pub stands_read : (w : World) (initial old new : List Device) → SameBoards old new → AreSteady old new → ((m : ℕ) → length w.sites ≤ m → slice_get new m ≡ slice_get old m) → WorldStands w initial old → WorldStands w initial new
 stands_read w initial old new same calm others b =
     record {
       all = boards_through initial old new b.all same.count same.endures;
-      calm = NoneRose_then initial old new b.all.count b.calm calm;
+      calm = AreSteady_then initial old new b.all.count b.calm calm;
       stands = chips_read w initial old new same b;
       came = b.came;
       others = λ m past. others m past ∙ b.others m past;

@@ -11,7 +11,7 @@ use Rattle.dg_control.specs.Store.{HasForm}
 use Rattle.dg_volume.specs.Sizes.{new_form}
 use Rattle.dg_volume.specs.Store.{Store}
 use Rattle.dg_volume.specs.Stands.{Stands}
-use Rattle.dg_world.specs.Counts.{NoneRose}
+use Rattle.dg_world.specs.Counts.{AreSteady, IsSteady}
 use Rattle.dg_world.specs.Formatted.{FirstBoards, FormatStops}
 use Rattle.dg_world.specs.declared.format.FormatStopped.{FormatStopped}
 use Rattle.dg_world.proofs.BoardLemmas.{Used, same_some, get_same, get_other}
@@ -25,7 +25,7 @@ pub record FormattedTo (n : ℕ) (s : Store) (old new : List Device) : Type 0 wh
   pub formatted : (m : ℕ) (d : Device) → m < n → slice_get new m ≡ Some d → Stands d.image s
   pub written : (m : ℕ) (d : Device) → m < n → slice_get new m ≡ Some d → HasForm d.image new_form
   pub awake : (m : ℕ) (d : Device) → m < n → slice_get old m ≡ Some d → d.stopped ≡ false
-  pub calm : NoneRose old new
+  pub calm : AreSteady old new
 
 -- the board was not used before
 pub unused : (n : ℕ) (old now new : List Device) (d e : Device) → FirstBoards n old now → Used n now new d e → slice_get old n ≡ Some d
@@ -48,14 +48,14 @@ endures_more n m old now new d e a b first used kept here there =
       | inr other ↦ first.endures m a b here (sym (differs_from_kept n m now new d e used other) ∙ there)
     ]
 
--- no count rose before, and the count of the board that is used next does not rise either
-pub calm_more : (n : ℕ) (old now new : List Device) (d e : Device) → FirstBoards n old now → Used n now new d e → NoneRose old now → e.faults ≡ d.faults → NoneRose old new
+-- the boards went on before, and so does the one that is used next
+pub calm_more : (n : ℕ) (old now new : List Device) (d e : Device) → FirstBoards n old now → Used n now new d e → AreSteady old now → IsSteady d e → AreSteady old new
 calm_more n old now new d e first used calm stays = λ m a b here there.
     elim (cases_eq m n) [
       | inl same ↦
           let p : d ≡ a = same_some d a (sym (unused n old now new d e first used) ∙ ap (slice_get old) (sym same) ∙ here) in
           let q : b ≡ e = same_some b e (sym there ∙ ap (slice_get new) same ∙ is_now n now new d e used) in
-          ap (λ (x : Device). x.faults) q ∙ stays ∙ ap (λ (x : Device). x.faults) p
+          subst (λ (x : Device). IsSteady a x) (sym q) (subst (λ (x : Device). IsSteady x e) p stays)
       | inr other ↦ calm m a b here (sym (differs_from_kept n m now new d e used other) ∙ there)
     ]
 
@@ -73,7 +73,7 @@ pub first_within : (n k : ℕ) (old new : List Device) → FirstBoards n old new
 first_within n k old new first within = record { count = first.count; others = λ m h. first.others m (omega (arith, h, within)); counts = first.counts; endures = first.endures }
 
 -- one more board was formatted
-pub formatted_more : (n : ℕ) (s : Store) (old now new : List Device) (d e : Device) → FormattedTo n s old now → Used n now new d e → Endures (beneath_of d) (beneath_of e) → d.stopped ≡ false → e.faults ≡ d.faults → Stands e.image s → HasForm e.image new_form
+pub formatted_more : (n : ℕ) (s : Store) (old now new : List Device) (d e : Device) → FormattedTo n s old now → Used n now new d e → Endures (beneath_of d) (beneath_of e) → d.stopped ≡ false → IsSteady d e → Stands e.image s → HasForm e.image new_form
     → FormattedTo (n + 1) s old new
 formatted_more n s old now new d e to used kept awake stays stands form =
     record {

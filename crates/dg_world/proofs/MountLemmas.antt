@@ -8,11 +8,12 @@ use Rattle.dg_nor.specs.Reads.{ReadStopped}
 use Rattle.dg_volume.specs.Store.{Store}
 use Rattle.dg_volume.specs.Stands.{Stands, IsVolume, IsNoVolume}
 use Rattle.dg_rules.specs.Begins.{store_of}
-use Rattle.dg_world.specs.Counts.{NoneRose}
+use Rattle.dg_world.specs.Counts.{AreSteady, AreAwake, IsSteady}
 use Rattle.dg_world.specs.Mounted.{StandFor, MountedTo, MountStops, NoVolumeAt}
 use Rattle.dg_world.specs.declared.mount.MountStopped.{MountStopped}
 use Rattle.dg_world.specs.declared.mount.MountStopped.TheVariants.{Flash, NotAVolume}
 use Rattle.dg_world.proofs.BoardLemmas.{Used, same_some}
+use Rattle.dg_world.proofs.EndureLemmas.{stay_awake}
 use Rattle.dg_world.proofs.FormatLemmas.{unused, is_now, differs_from_kept, calm_more}
 use Rattle.dg_world.proofs.FinishLemmas.{ReadTo, read_more}
 
@@ -21,10 +22,10 @@ pub record AreMounted (n : ℕ) (old new : List Device) : Type 0 where
   pub read : ReadTo n old new
   pub volumes : (m : ℕ) (d : Device) → m < n → slice_get new m ≡ Some d → IsVolume d.image
   pub awake : (m : ℕ) (d : Device) → m < n → slice_get old m ≡ Some d → d.stopped ≡ false
-  pub calm : NoneRose old new
+  pub calm : AreSteady old new
 
 -- one more board was mounted
-pub mounted_more : (n : ℕ) (old now new : List Device) (d e : Device) → AreMounted n old now → Used n now new d e → Endures (beneath_of d) (beneath_of e) → e.image ≡ d.image → d.stopped ≡ false → e.faults ≡ d.faults
+pub mounted_more : (n : ℕ) (old now new : List Device) (d e : Device) → AreMounted n old now → Used n now new d e → Endures (beneath_of d) (beneath_of e) → e.image ≡ d.image → d.stopped ≡ false → IsSteady d e
     → IsVolume e.image → AreMounted (n + 1) old new
 mounted_more n old now new d e to used kept same awake stays volume =
     record {
@@ -72,20 +73,20 @@ no_volume_at n motes old now new d e to used none known = record {
 
 -- ---- what they stand for
 
-gathered : (n : ℕ) (ds : List Device) → n ≤ length ds → ((m : ℕ) (d : Device) → m < n → slice_get ds m ≡ Some d → IsVolume d.image) → (stores : List Store) × StandFor n stores ds
-gathered zero ds few volumes = ([], record { count = refl; each = λ m d h here. absurd (omega (arith, h)) })
-gathered (suc n) [] few volumes = absurd (omega (arith, few))
-gathered (suc n) (x ∷ xs) few volumes =
+gathered : (n : ℕ) (ds : List Device) → n ≤ length ds → AreAwake n ds → ((m : ℕ) (d : Device) → m < n → slice_get ds m ≡ Some d → IsVolume d.image) → (stores : List Store) × StandFor n stores ds
+gathered zero ds few awake volumes = ([], record { count = refl; each = λ m d h here. absurd (omega (arith, h)); awake = awake })
+gathered (suc n) [] few awake volumes = absurd (omega (arith, few))
+gathered (suc n) (x ∷ xs) few awake volumes =
     let first = volumes zero x (omega arith) refl in
-    let rest = gathered n xs (omega (arith, few)) (λ m d h here. volumes (suc m) d (omega (arith, h)) here) in
-    (first.0 ∷ rest.0, record { count = ap suc rest.1.count; each = each first.0 first.1 rest.0 rest.1 })
+    let rest = gathered n xs (omega (arith, few)) (λ m d h here. awake (suc m) d (omega (arith, h)) here) (λ m d h here. volumes (suc m) d (omega (arith, h)) here) in
+    (first.0 ∷ rest.0, record { count = ap suc rest.1.count; each = each first.0 first.1 rest.0 rest.1; awake = awake })
   where
     each : (s : Store) → Stands x.image s → (stores : List Store) → StandFor n stores xs → (m : ℕ) (d : Device) → m < suc n → slice_get (x ∷ xs) m ≡ Some d → Stands d.image (store_of (s ∷ stores) m)
     each s stands stores rest zero d h here = subst (λ (y : Device). Stands y.image s) (same_some x d here) stands
     each s stands stores rest (suc m) d h here = rest.each m d (omega (arith, h)) here
 
 pub stand_for : (n : ℕ) (old new : List Device) → n ≤ length new → AreMounted n old new → (stores : List Store) × StandFor n stores new
-stand_for n old new few to = gathered n new few to.volumes
+stand_for n old new few to = gathered n new few (stay_awake n old new to.read.first.count to.calm to.awake) to.volumes
 
 -- ---- which board it was
 

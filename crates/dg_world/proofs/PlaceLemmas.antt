@@ -34,7 +34,8 @@ use Rattle.dg_shared.specs.Shareds.{IsShared}
 use Rattle.dg_shared.specs.declared.links.Links.{Links}
 use Rattle.dg_shared.specs.Neighbours.{KnowsLinks}
 use Rattle.dg_world.specs.Worlds.{MoteStands, SiteStands, MayRun, IsWorld}
-use Rattle.dg_world.specs.Counts.{NoneRose}
+use Rattle.dg_world.specs.Counts.{AreSteady, IsSteady}
+use Rattle.dg_world.proofs.CountLemmas.{steady_same}
 use Rattle.dg_world.specs.Applied.{OneBoard, Applied, FlashAt, RunEnded}
 use Rattle.dg_world.specs.inner.Outcomes.{fault_of}
 use Rattle.dg_world.specs.Deployments.{Deployment, deployed}
@@ -96,15 +97,15 @@ one_board bs i a b known here kept =
       endures = all;
     }
 
--- where the count of that board does not change, no board's count rose
-pub calm_board : (bs : List Device) (i : ℕ) (a b : Device) → i < length bs → slice_get bs i ≡ Some a → b.faults ≡ a.faults → NoneRose bs (set bs i b)
+-- where that board goes on, all do
+pub calm_board : (bs : List Device) (i : ℕ) (a b : Device) → i < length bs → slice_get bs i ≡ Some a → IsSteady a b → AreSteady bs (set bs i b)
 calm_board bs i a b known here kept = λ k p q old new.
     ⊎_elim
     (λ is.
     let ep : p ≡ a = same_of (slice_get bs i) p a (sym (ap (slice_get bs) is) ∙ old) here in
     let eq : q ≡ b = same_of (slice_get (set bs i b) i) q b (sym (ap (slice_get (set bs i b)) is) ∙ new) (get_set_same bs i b known) in
-    ap (λ (d : Device). d.faults) eq ∙ kept ∙ ap (λ (d : Device). d.faults) (sym ep))
-    (λ other. ap (λ (d : Device). d.faults) (same_of (slice_get bs k) q p (sym (get_set_other bs i k b other) ∙ new) old))
+    subst (λ (d : Device). IsSteady p d) (sym eq) (subst (λ (d : Device). IsSteady d b) (sym ep) kept))
+    (λ other. subst (λ (d : Device). IsSteady p d) (same_of (slice_get bs k) p q old (sym (get_set_other bs i k b other) ∙ new)) (steady_same p))
     (is_or k i)
 
 -- ---- the world afterwards
@@ -187,7 +188,7 @@ module _ (v u : World) (bs : List Device) (w : RuleWorld) (x : Step) (reported :
     orderly = orderly_then;
   }
 
-  pub applied : (a : Device) → v.events < most_events → dt_of x.event < 2 ^ 32 → WorldTimely s.world → slice_get bs i ≡ Some a → Endures (beneath_of a) (beneath_of b) → b.faults ≡ a.faults → Applied w x reported (deployed v bs start) (deployed u (set bs i b) end)
+  pub applied : (a : Device) → v.events < most_events → dt_of x.event < 2 ^ 32 → WorldTimely s.world → slice_get bs i ≡ Some a → Endures (beneath_of a) (beneath_of b) → IsSteady a b → Applied w x reported (deployed v bs start) (deployed u (set bs i b) end)
   applied a few short timely here endures stays =
       let wide : i < length bs = omega (arith, known, is.boards_enough) in
       record {
@@ -222,7 +223,7 @@ flashed v bs w x i a b is at known here endures s =
       boards = one_board bs i a b wide here endures;
     }
 
-pub lacked : (v : World) (bs : List Device) (w : RuleWorld) (x : Step) (i : ℕ) (a b : Device) → IsWorld v bs w → i ≡ mote_of x.event → i < length w.sites → slice_get bs i ≡ Some a → Endures (beneath_of a) (beneath_of b) → b.faults ≡ a.faults
+pub lacked : (v : World) (bs : List Device) (w : RuleWorld) (x : Step) (i : ℕ) (a b : Device) → IsWorld v bs w → i ≡ mote_of x.event → i < length w.sites → slice_get bs i ≡ Some a → Endures (beneath_of a) (beneath_of b) → IsSteady a b
     → StepFoundNoImage (does w x.event) x.cut b.image → RunEnded w x bs (set bs i b)
 lacked v bs w x i a b is at known here endures stays s =
     let wide : i < length bs = omega (arith, known, is.boards_enough) in

@@ -21,6 +21,7 @@ use Rattle.dg_volume.specs.declared.volume.MountFault.{MountFault}
 use Rattle.dg_volume.specs.declared.volume.MountFault.TheVariants as mount_fault
 use Rattle.dg_node.specs.Known.{MountDone}
 use Rattle.dg_world.specs.inner.Faults.{fault_of_mount}
+use Rattle.dg_world.proofs.CountLemmas.{steady_ran, steady_same}
 
 -- ---- reads
 
@@ -52,10 +53,10 @@ abbrev pub ReadAndTold : {T : Type 0} → Result T Fault → ℕ → Option Chip
 ReadAndTold r m before t a b start end = CutReported r m before t start end × CutRead r a b
 
 pub read_told : {T : Type 0} (y : T) (m : ℕ) (before : Option ChipReport) (t : Store) (a b : Device) (start end : List Report) → CutChangesAre m before t start end → Looked a b → ReadAndTold {T = T} (Ok y) m before t a b start end
-read_told y m before t a b start end changes looked = (changes, (looked_read a b looked, looked.ran.faults))
+read_told y m before t a b start end changes looked = (changes, (looked_read a b looked, steady_ran looked.ran))
 
 pub unread_told : {T : Type 0} (y : T) (m : ℕ) (before : Option ChipReport) (t : Store) (a : Device) (told : List Report) → before ≡ None → ReadAndTold {T = T} (Ok y) m before t a a told told
-unread_told y m before t a told none = (nothing_changed m before t told none, (same_read a, refl))
+unread_told y m before t a told none = (nothing_changed m before t told none, (same_read a, steady_same a))
 
 stopped_told : (T : Type 0) (f : Fault) (m : ℕ) (before : Option ChipReport) (t : Store) (a b : Device) (told : List Report) → (f ≡ fault.Stopped) × ReadStopped a b → ReadAndTold {T = T} (Err f) m before t a b told told
 stopped_told T f m before t a b told x =

@@ -21,7 +21,7 @@ use Rattle.dg_script.specs.declared.report.Report.{Report}
 use Rattle.dg_world.specs.declared.world.World.{World}
 use Rattle.dg_world.specs.Worlds.{IsWorld}
 use Rattle.dg_world.specs.Deployments.{Deployment}
-use Rattle.dg_world.specs.Counts.{NoneRose}
+use Rattle.dg_world.specs.Counts.{AreSteady}
 
 -- No board but this one was used. No count fell, and a board is stopped only if it was before, or if its count rose.
 pub record OneBoard (board : ℕ) (old new : List Device) : Type 0 where
@@ -31,8 +31,8 @@ pub record OneBoard (board : ℕ) (old new : List Device) : Type 0 where
   pub endures : (m : ℕ) (a b : Device) → slice_get old m ≡ Some a → slice_get new m ≡ Some b
       → Endures (beneath_of a) (beneath_of b)
 
--- A step was applied to a, which is b afterwards. The rules allow it, and it is reported as they say. No board's count rose,
--- even where a cut fired. The pages of what was started, if anything, are in program memory.
+-- A step was applied to a, which is b afterwards. The rules allow it, and it is reported as they say. No board stopped, and no
+-- board's count rose, even where a cut fired. The pages of what was started, if anything, are in program memory.
 pub record Applied (w : RuleWorld) (x : Step) (reported : Bool) (a b : Deployment) : Type 0 where
   pub world : RuleWorld
   pub reports : List Report
@@ -40,7 +40,7 @@ pub record Applied (w : RuleWorld) (x : Step) (reported : Bool) (a b : Deploymen
   pub stood : IsWorld b.world b.boards world
   pub report_now : b.reported ≡ a.reported ++ filter (is_reported reported) reports
   pub boards : OneBoard (mote_of x.event) a.boards b.boards
-  pub calm : NoneRose a.boards b.boards
+  pub calm : AreSteady a.boards b.boards
   pub memory : (d : EventEffect) (r : Runs) (c : Device) → does w x.event ≡ Goes d → blows x.cut d.trail ≡ false
       → d.started ≡ Some r
       → slice_get b.boards (mote_of x.event) ≡ Some c → program c.image (length r.pages) ≡ r.pages
@@ -61,13 +61,13 @@ pub record FlashAt (w : RuleWorld) (x : Step) (board : ℕ) (old new : List Devi
   pub leaves : MayLeave Stands IsNear (trail_of (does w x.event) (store_at w (mote_of x.event))) done after.image
   pub boards : OneBoard board old new
 
--- A start found no image: the boards stand for the world in which the run ended, and no board's count rose.
+-- A start found no image: the boards stand for the world in which the run ended. No board stopped, and no board's count rose.
 pub record RunEnded (w : RuleWorld) (x : Step) (old new : List Device) : Type 0 where
   pub world : RuleWorld
   pub ends : EndsRun w x world
   pub stood : (m : ℕ) (d : Device) → m < length world.sites → slice_get new m ≡ Some d → Stands d.image (store_at world m)
   pub boards : OneBoard (mote_of x.event) old new
-  pub calm : NoneRose old new
+  pub calm : AreSteady old new
 
 -- The boards were only read. No count fell, and a board is stopped only if it was before, or if its count rose.
 pub record SameBoards (old new : List Device) : Type 0 where

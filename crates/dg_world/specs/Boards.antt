@@ -5,7 +5,7 @@ use Rattle.dg_nor.specs.Device.{Device, Endures}
 use Rattle.dg_nor.specs.Fuse.{beneath_of}
 use Rattle.dg_volume.specs.Stands.{Stands}
 use Rattle.dg_rules.specs.World.{World, store_at}
-use Rattle.dg_world.specs.Counts.{NoneRose}
+use Rattle.dg_world.specs.Counts.{AreSteady}
 
 -- No count of a board fell, and a board is stopped only if it was before, or if its count rose.
 pub record BoardsEndure (old new : List Device) : Type 0 where
@@ -13,11 +13,11 @@ pub record BoardsEndure (old new : List Device) : Type 0 where
   pub endures : (m : ℕ) (a b : Device) → slice_get old m ≡ Some a → slice_get new m ≡ Some b
       → Endures (beneath_of a) (beneath_of b)
 
--- The boards of a world's motes stand for its stores, and were not stopped on entry. All others are unchanged, and no board's
--- count rose: where one fails, that is reported.
+-- The boards of a world's motes stand for its stores, and were not stopped on entry. All others are unchanged. No board stopped,
+-- and no board's count rose: where one fails, that is reported.
 pub record WorldStands (w : World) (old new : List Device) : Type 0 where
   pub all : BoardsEndure old new
-  pub calm : NoneRose old new
+  pub calm : AreSteady old new
   pub stands : (m : ℕ) (d : Device) → m < length w.sites → slice_get new m ≡ Some d → Stands d.image (store_at w m)
   pub came : (m : ℕ) (d : Device) → m < length w.sites → slice_get old m ≡ Some d → d.stopped ≡ false
   pub others : (m : ℕ) → length w.sites ≤ m → slice_get new m ≡ slice_get old m

@@ -5,11 +5,13 @@ use Rattle.dg_nor.specs.Device.{Device}
 use Rattle.dg_volume.specs.Store.{Store}
 use Rattle.dg_volume.specs.Stands.{Stands, IsVolume, IsNoVolume}
 use Rattle.dg_rules.specs.Begins.{store_of}
+use Rattle.dg_world.specs.Counts.{AreAwake}
 
--- the boards of the first motes stand for these stores, one for each
+-- The boards of the first motes stand for these stores, one for each, and are not stopped.
 pub record StandFor (motes : ℕ) (stores : List Store) (boards : List Device) : Type 0 where
   pub count : length stores ≡ motes
   pub each : (m : ℕ) (d : Device) → m < motes → slice_get boards m ≡ Some d → Stands d.image (store_of stores m)
+  pub awake : AreAwake motes boards
 
 -- The boards before this one are volumes, and were not stopped on entry. No board after it was used.
 pub record MountedTo (board : ℕ) (old new : List Device) : Type 0 where

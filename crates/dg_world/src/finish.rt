@@ -9,7 +9,7 @@ ghost use Rattle.dg_volume.specs.Stands.{IsVolume};
 ghost use Rattle.dg_rules.specs.World.{World as RuleWorld, Site, site};
 ghost use Rattle.dg_rules.specs.Changes.{site_lines, final_lines};
 ghost use Rattle.dg_world.specs.Worlds.{IsWorld, SiteStands};
-ghost use Rattle.dg_world.specs.Counts.{NoneRose};
+ghost use Rattle.dg_world.specs.Counts.{AreSteady};
 ghost use Rattle.dg_world.specs.Applied.{SameBoards, ReadFlash};
 ghost use Rattle.dg_world.specs.inner.Finished.{mote_report, kept_report, kept_reports};
 
@@ -45,10 +45,10 @@ impl World {
             → out.new.items ≡ out.old.items ++ final_lines w) }
         ensures unreported { OnErr result (out.new.items ≡ out.old.items) }
         ensures boards { SameBoards (map N.device boards.old.items) (map N.device boards.new.items) }
-        // a count rises only where a board stopped
-        ensures calm { OnOk result (NoneRose (map N.device boards.old.items) (map N.device boards.new.items)) }
+        // a board stops, and a count rises, only where that is the answer
+        ensures calm { OnOk result (AreSteady (map N.device boards.old.items) (map N.device boards.new.items)) }
         ensures calm_memory { result ≡ Err FinishFault.Memory
-            → NoneRose (map N.device boards.old.items) (map N.device boards.new.items) }
+            → AreSteady (map N.device boards.old.items) (map N.device boards.new.items) }
         // only the boards of motes are read
         ensures others { (w : RuleWorld) → IsWorld self.now (map N.device boards.old.items) w → (m : ℕ) → length w.sites ≤ m
             → slice_get (map N.device boards.new.items) m ≡ slice_get (map N.device boards.old.items) m }
@@ -89,7 +89,7 @@ impl World {
             → out.new.items ≡ out.old.items ++ flat_map (λ m. site_lines m (site w m)) (range_with_len 0 (length w.sites))) }
         ensures begun { (lines : List Report) × (out.new.items ≡ out.old.items ++ lines) }
         ensures boards { SameBoards (map N.device boards.old) (map N.device boards.new) }
-        ensures calm { OnOk result (NoneRose (map N.device boards.old) (map N.device boards.new)) }
+        ensures calm { OnOk result (AreSteady (map N.device boards.old) (map N.device boards.new)) }
         // only the boards of motes are read
         ensures others { (w : RuleWorld) → IsWorld self.now (map N.device boards.old) w → (m : ℕ) → length w.sites ≤ m
             → slice_get (map N.device boards.new) m ≡ slice_get (map N.device boards.old) m }

@@ -9,7 +9,7 @@ ghost use Rattle.dg_volume.specs.Sizes.{most_room, new_form};
 ghost use Rattle.dg_control.specs.Store.{HasForm};
 ghost use Rattle.dg_volume.specs.Store.{fresh};
 ghost use Rattle.dg_volume.specs.Stands.{Stands};
-ghost use Rattle.dg_world.specs.Counts.{NoneRose};
+ghost use Rattle.dg_world.specs.Counts.{AreSteady, IsSteady};
 ghost use Rattle.dg_world.specs.Formatted.{FirstBoards, FormatStops};
 
 use dg_nor::{Nor, Stopped};
@@ -43,7 +43,7 @@ pub fn format_boards<N: Nor>(
     ensures awake { OnOk result ((m : ℕ) (d : Device) → m < motes → slice_get (map N.device boards.old) m ≡ Some d
         → d.stopped ≡ false) }
     ensures others { FirstBoards motes (map N.device boards.old) (map N.device boards.new) }
-    ensures calm { OnOk result (NoneRose (map N.device boards.old) (map N.device boards.new)) }
+    ensures calm { OnOk result (AreSteady (map N.device boards.old) (map N.device boards.new)) }
     ensures stopped { (e : FormatStopped) → result ≡ Err e
         → FormatStops e.board motes (fresh name.now golden.now used) (map N.device boards.old) (map N.device boards.new) }
 {
@@ -66,7 +66,7 @@ fn format_board<N: Nor>(nor: &mut N, name: &[u8], golden: &[u8], used: u32) -> R
     ensures form { OnOk result (HasForm (N.device nor.new).image new_form) }
     ensures awake { OnOk result ((N.device nor.old).stopped ≡ false) }
     ensures stopped { OnErr result (ActStopped (N.device nor.old) (N.device nor.new)) }
-    ensures calm { OnOk result ((N.device nor.new).faults ≡ (N.device nor.old).faults) }
+    ensures calm { OnOk result (IsSteady (N.device nor.old) (N.device nor.new)) }
     // it is stopped only if it was before, or if its count rose
     ensures endures { Endures (beneath_of (N.device nor.old)) (beneath_of (N.device nor.new)) }
 {

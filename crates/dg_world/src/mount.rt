@@ -6,7 +6,7 @@ ghost use Rattle.dg_nor.specs.Reads.{ReadStopped};
 ghost use Rattle.dg_volume.specs.Store.{Store};
 ghost use Rattle.dg_volume.specs.Stands.{IsVolume, IsNoVolume};
 ghost use Rattle.dg_world.specs.Applied.{SameBoards};
-ghost use Rattle.dg_world.specs.Counts.{NoneRose};
+ghost use Rattle.dg_world.specs.Counts.{AreSteady, IsSteady};
 ghost use Rattle.dg_world.specs.Mounted.{StandFor, MountStops, NoVolumeAt};
 
 use dg_nor::Nor;
@@ -30,13 +30,13 @@ pub fn mount_boards<N: Nor>(boards: &mut [N], motes: u8) -> Result<(), MountStop
     ensures awake { OnOk result ((m : ℕ) (d : Device) → m < motes → slice_get (map N.device boards.old) m ≡ Some d
         → d.stopped ≡ false) }
     ensures others { (m : ℕ) → motes ≤ m → slice_get (map N.device boards.new) m ≡ slice_get (map N.device boards.old) m }
-    ensures calm { OnOk result (NoneRose (map N.device boards.old) (map N.device boards.new)) }
+    ensures calm { OnOk result (AreSteady (map N.device boards.old) (map N.device boards.new)) }
     ensures stopped { (board : ℕ) → result ≡ Err (MountStopped.Flash board)
         → MountStops board motes (map N.device boards.old) (map N.device boards.new) }
     ensures no_volume { (board : ℕ) → result ≡ Err (MountStopped.NotAVolume board)
         → NoVolumeAt board motes (map N.device boards.old) (map N.device boards.new) }
     ensures calm_no_volume { (board : ℕ) → result ≡ Err (MountStopped.NotAVolume board)
-        → NoneRose (map N.device boards.old) (map N.device boards.new) }
+        → AreSteady (map N.device boards.old) (map N.device boards.new) }
 {
     for board in 0..motes {
         match mount_board(&mut boards[usize::from(board)]) {
@@ -52,9 +52,9 @@ pub fn mount_boards<N: Nor>(boards: &mut [N], motes: u8) -> Result<(), MountStop
 fn mount_board<N: Nor>(nor: &mut N) -> Result<(), MountFault>
     ensures volume { OnOk result (IsVolume (N.device nor.new).image) }
     ensures awake { OnOk result ((N.device nor.old).stopped ≡ false) }
-    ensures calm { OnOk result ((N.device nor.new).faults ≡ (N.device nor.old).faults) }
+    ensures calm { OnOk result (IsSteady (N.device nor.old) (N.device nor.new)) }
     ensures no_volume { IsErrOf result MountFault.NotAVolume → IsNoVolume (N.device nor.old).image }
-    ensures calm_no_volume { IsErrOf result MountFault.NotAVolume → (N.device nor.new).faults ≡ (N.device nor.old).faults }
+    ensures calm_no_volume { IsErrOf result MountFault.NotAVolume → IsSteady (N.device nor.old) (N.device nor.new) }
     ensures stopped { IsErrOf result MountFault.Stopped → ReadStopped (N.device nor.old) (N.device nor.new) }
     ensures same_image { (N.device nor.new).image ≡ (N.device nor.old).image }
     // it is stopped only if it was before, or if its count rose

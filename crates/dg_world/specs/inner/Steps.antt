@@ -16,6 +16,7 @@ use Rattle.dg_world.specs.Known.{OrderTakes, InjectTakes}
 use Rattle.dg_world.specs.inner.Contexts.{AppliesIn}
 use Rattle.dg_world.specs.inner.Outcomes.{stepped}
 use Rattle.dg_shared.specs.Unseen.{RefusesUnseen}
+use Rattle.dg_world.specs.Counts.{IsSteady}
 use Rattle.dg_world.specs.inner.Counts.{CountStays}
 use Rattle.dg_world.specs.Cuts.{IsStopped, StepFoundNoImage}
 use Rattle.dg_world.specs.inner.OutcomeEndings.{BeforeReports}
@@ -48,7 +49,7 @@ CutReported (Err fault.NoImage) m before t report_before report = ⊥
 
 -- how that look leaves the board, which is only read
 abbrev pub CutRead : {T : Type 0} → Result T Fault → Device → Device → Type 0
-CutRead (Ok u) old new = BoardOnlyRead old new × (new.faults ≡ old.faults)
+CutRead (Ok u) old new = BoardOnlyRead old new × IsSteady old new
 CutRead (Err fault.Stopped) old new = (new.stopped ≡ true) × BoardOnlyRead old new
 CutRead (Err fault.NotAVolume) old new = ⊥
 CutRead (Err fault.NoImage) old new = ⊥

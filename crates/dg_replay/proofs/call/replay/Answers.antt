@@ -1,5 +1,4 @@
 use Rattle.std.proofs.Common.{List, [], map, arith, refl, ◌∙◌}
-use Rattle.dg_base.proofs.OutsideLemmas.{Takes-nil}
 use Rattle.dg_base.specs.Outside.{AtEnd}
 use Rattle.dg_object.specs.Object.{Row}
 use Rattle.dg_words.specs.Counts.{Rose}
@@ -27,7 +26,7 @@ returns-in-Ok-play_lines-clause-done g c = λ rest.
     let a = c.in-Ok-play_lines.ensures.answer in
     let read = Rose (reads c.args.input.now) (reads c.play_lines.new.input) in
     let failed = Rose (writes c.args.out.now) (writes c.end_script.new.out) in
-    replay_ended {F = g.W.Watcher.saw c.args.watcher.now} {G = g.W.Watcher.saw c.play_lines.new.watcher} _ _ _ c.replays_keep_the_rules.ensures a.0 a.1
+    replay_ended {F = g.W.Watcher.saw c.args.watcher.now old} {G = g.W.Watcher.saw c.play_lines.new.watcher old} _ _ _ c.replays_keep_the_rules.ensures a.0 a.1
     (λ (table : List Row).
     let x = a.2 table in (
       omega (arith, x.1),
@@ -47,7 +46,7 @@ returns-in-Ok-play_lines-clause-seen g c = λ rest.
     let a = c.in-Ok-play_lines.ensures.answer in
     let read = Rose (reads c.args.input.now) (reads c.play_lines.new.input) in
     let failed = Rose (writes c.args.out.now) (writes c.end_script.new.out) in
-    replay_seen {F = g.W.Watcher.saw c.args.watcher.now} {G = g.W.Watcher.saw c.play_lines.new.watcher} _ _ _ a.0 a.1
+    replay_seen {F = g.W.Watcher.saw c.args.watcher.now old} {G = g.W.Watcher.saw c.play_lines.new.watcher old} _ _ _ a.0 a.1
     (λ (table : List Row).
     let x = a.2 table in (
       omega (arith, x.1),
@@ -163,7 +162,7 @@ returns-in_default-clause-done g c = λ rest.
 
 pub returns-in_default-clause-seen : goal.returns-in_default-clause-seen
 returns-in_default-clause-seen g c = λ rest table f.
-    (memory_unread _, unread_seen table (g.W.Watcher.saw c.args.watcher.now) (script_of []) f)
+    (memory_unread _, unread_seen table (g.W.Watcher.saw c.args.watcher.now (map g.N.Nor.device c.args.boards.now.items)) (script_of []) f)
 
 pub returns-in-Ok-play_lines-clause-buffers : goal.returns-in-Ok-play_lines-clause-buffers
 returns-in-Ok-play_lines-clause-buffers g c = let b = c.a_mote_buffers_little.ensures in (b.alive, b.values)

@@ -3,7 +3,7 @@ use Rattle.dg_words.specs.Counts.{Rose}
 use Rattle.dg_base.specs.Outside.{AtEnd, Takes}
 use Rattle.dg_replay.specs.Following.{AllAsBefore}
 use Rattle.dg_replay.specs.Playing.{gone_on}
-use Rattle.dg_replay.specs.Stages.{replay_state}
+use Rattle.dg_replay.specs.Stages.{based_on, replay_state}
 use Rattle.dg_replay.specs.declared.halt.Halt.TheVariants.{Stopped}
 use Rattle.dg_replay.specs.declared.player.Player.{Player}
 use Rattle.dg_replay.specs.declared.stop.Stop.TheVariants.{Memory}
@@ -19,7 +19,8 @@ play_line-requires g c =
 
 pub returns-in-Err-next_line-clause-answer : goal.returns-in-Err-next_line-clause-answer
 returns-in-Err-next_line-clause-answer g c =
-    let F = g.W.Watcher.saw c.args.watcher.now in
+    λ initial.
+    let F = g.W.Watcher.saw c.args.watcher.now initial in
     let G = F in
     let left = g.S.Source.left in
     let faults = g.S.Source.faults in
@@ -33,14 +34,15 @@ returns-in-Err-next_line-clause-answer g c =
     let failed = Rose (writes c.args.out.now) (writes c.args.out.now) in
     let text = c.text.result.now in
     let number = c.in-Ok-Some.number in
-    given_answer (Err (Stopped c.in-Err-next_line.stop)) c.in-Ok-Some.field-0 number text c.args.reader.now c.next.new.self (AtEnd (left c.next.new.input)) (Rose (faults c.args.input.now) (faults c.next.new.input)) (λ more. Takes (left c.args.input.now) (left c.next.new.input) more) (replay_state p was before F) (replay_state q now after G) failed
+    given_answer (Err (Stopped c.in-Err-next_line.stop)) c.in-Ok-Some.field-0 number text c.args.reader.now c.next.new.self (AtEnd (left c.next.new.input)) (Rose (faults c.args.input.now) (faults c.next.new.input)) (λ more. Takes (left c.args.input.now) (left c.next.new.input) more) initial (replay_state p was before F) (replay_state q now after G) failed
     c.in-Ok-Some.field-0-is c.text.ensures c.in-Ok-Some.ensures.answer
-    (text_unread c.in-Err-next_line.stop text number p was before failed F c.in-Err-next_line.ensures)
+    (text_unread c.in-Err-next_line.stop text number p initial was before failed F c.in-Err-next_line.ensures)
 
 pub returns-in-Ok-write_text-clause-answer : goal.returns-in-Ok-write_text-clause-answer
 returns-in-Ok-write_text-clause-answer g c =
-    let F = g.W.Watcher.saw c.args.watcher.now in
-    let G = g.W.Watcher.saw c.play_line.new.watcher in
+    λ initial.
+    let F = g.W.Watcher.saw c.args.watcher.now initial in
+    let G = g.W.Watcher.saw c.play_line.new.watcher initial in
     let left = g.S.Source.left in
     let faults = g.S.Source.faults in
     let writes = g.K.Sink.faults in
@@ -53,15 +55,16 @@ returns-in-Ok-write_text-clause-answer g c =
     let failed = Rose (writes c.args.out.now) (writes c.write_text.new.out) in
     let text = c.text.result.now in
     let number = c.in-Ok-Some.number in
-    given_answer (Ok true) c.in-Ok-Some.field-0 number text c.args.reader.now c.next.new.self (AtEnd (left c.next.new.input)) (Rose (faults c.args.input.now) (faults c.next.new.input)) (λ more. Takes (left c.args.input.now) (left c.next.new.input) more) (replay_state p was before F) (replay_state q now after G) failed
+    given_answer (Ok true) c.in-Ok-Some.field-0 number text c.args.reader.now c.next.new.self (AtEnd (left c.next.new.input)) (Rose (faults c.args.input.now) (faults c.next.new.input)) (λ more. Takes (left c.args.input.now) (left c.next.new.input) more) initial (replay_state p was before F) (replay_state q now after G) failed
     c.in-Ok-Some.field-0-is c.text.ensures c.in-Ok-Some.ensures.answer
-    (text_played (Ok tt) text number p c.play_line.new.player c.pass.new.self was now c.in-Ok.line c.play_line.new.line c.clear.new.self.items c.play_line.new.line_report.text.items c.deref.result.now before after failed F G c.in-Ok.ensures.spelled c.clear.ensures.items c.deref.ensures.value
-    c.in-Ok-play_line.ensures.played c.in-Ok-play_line.ensures.behind c.in-Ok-pass.ensures.ok c.in-Ok-write_text.ensures.ok tt tt c.in-Ok-play_line.ensures.kept)
+    (text_played (Ok tt) text number p c.play_line.new.player c.pass.new.self initial was now c.in-Ok.line c.play_line.new.line c.clear.new.self.items c.play_line.new.line_report.text.items c.deref.result.now before after failed F G c.in-Ok.ensures.spelled c.clear.ensures.items c.deref.ensures.value
+    (λ table. c.in-Ok-play_line.ensures.played (based_on table initial)) c.in-Ok-play_line.ensures.behind c.in-Ok-pass.ensures.ok c.in-Ok-write_text.ensures.ok tt tt c.in-Ok-play_line.ensures.kept)
 
 pub returns-in-Err-write_text-clause-answer : goal.returns-in-Err-write_text-clause-answer
 returns-in-Err-write_text-clause-answer g c =
-    let F = g.W.Watcher.saw c.args.watcher.now in
-    let G = g.W.Watcher.saw c.play_line.new.watcher in
+    λ initial.
+    let F = g.W.Watcher.saw c.args.watcher.now initial in
+    let G = g.W.Watcher.saw c.play_line.new.watcher initial in
     let left = g.S.Source.left in
     let faults = g.S.Source.faults in
     let writes = g.K.Sink.faults in
@@ -74,16 +77,17 @@ returns-in-Err-write_text-clause-answer g c =
     let failed = Rose (writes c.args.out.now) (writes c.write_text.new.out) in
     let text = c.text.result.now in
     let number = c.in-Ok-Some.number in
-    given_answer (Err (Stopped c.in-Err-write_text.stop)) c.in-Ok-Some.field-0 number text c.args.reader.now c.next.new.self (AtEnd (left c.next.new.input)) (Rose (faults c.args.input.now) (faults c.next.new.input)) (λ more. Takes (left c.args.input.now) (left c.next.new.input) more) (replay_state p was before F) (replay_state q now after G) failed
+    given_answer (Err (Stopped c.in-Err-write_text.stop)) c.in-Ok-Some.field-0 number text c.args.reader.now c.next.new.self (AtEnd (left c.next.new.input)) (Rose (faults c.args.input.now) (faults c.next.new.input)) (λ more. Takes (left c.args.input.now) (left c.next.new.input) more) initial (replay_state p was before F) (replay_state q now after G) failed
     c.in-Ok-Some.field-0-is c.text.ensures c.in-Ok-Some.ensures.answer
-    (text_played (Err c.in-Err-write_text.stop) text number p c.play_line.new.player c.pass.new.self was now c.in-Ok.line c.play_line.new.line c.clear.new.self.items c.play_line.new.line_report.text.items c.deref.result.now before after failed F G c.in-Ok.ensures.spelled c.clear.ensures.items c.deref.ensures.value
-    c.in-Ok-play_line.ensures.played c.in-Ok-play_line.ensures.behind c.in-Ok-pass.ensures.ok tt c.in-Err-write_text.ensures.front c.in-Err-write_text.ensures.cause c.in-Ok-play_line.ensures.kept)
+    (text_played (Err c.in-Err-write_text.stop) text number p c.play_line.new.player c.pass.new.self initial was now c.in-Ok.line c.play_line.new.line c.clear.new.self.items c.play_line.new.line_report.text.items c.deref.result.now before after failed F G c.in-Ok.ensures.spelled c.clear.ensures.items c.deref.ensures.value
+    (λ table. c.in-Ok-play_line.ensures.played (based_on table initial)) c.in-Ok-play_line.ensures.behind c.in-Ok-pass.ensures.ok tt c.in-Err-write_text.ensures.front c.in-Err-write_text.ensures.cause c.in-Ok-play_line.ensures.kept)
 
 pub returns-in-Err-pass-clause-answer : goal.returns-in-Err-pass-clause-answer
 returns-in-Err-pass-clause-answer g c =
+    λ initial.
     let link = c.in-Err-pass.ensures.cause in
-    let F = g.W.Watcher.saw c.args.watcher.now in
-    let G = g.W.Watcher.saw c.play_line.new.watcher in
+    let F = g.W.Watcher.saw c.args.watcher.now initial in
+    let G = g.W.Watcher.saw c.play_line.new.watcher initial in
     let left = g.S.Source.left in
     let faults = g.S.Source.faults in
     let writes = g.K.Sink.faults in
@@ -96,14 +100,15 @@ returns-in-Err-pass-clause-answer g c =
     let failed = Rose (writes c.args.out.now) (writes c.args.out.now) in
     let text = c.text.result.now in
     let number = c.in-Ok-Some.number in
-    given_answer (Err (Stopped Memory)) c.in-Ok-Some.field-0 number text c.args.reader.now c.next.new.self (AtEnd (left c.next.new.input)) (Rose (faults c.args.input.now) (faults c.next.new.input)) (λ more. Takes (left c.args.input.now) (left c.next.new.input) more) (replay_state p was before F) (replay_state q now after G) failed
+    given_answer (Err (Stopped Memory)) c.in-Ok-Some.field-0 number text c.args.reader.now c.next.new.self (AtEnd (left c.next.new.input)) (Rose (faults c.args.input.now) (faults c.next.new.input)) (λ more. Takes (left c.args.input.now) (left c.next.new.input) more) initial (replay_state p was before F) (replay_state q now after G) failed
     c.in-Ok-Some.field-0-is c.text.ensures c.in-Ok-Some.ensures.answer
-    (text_forgotten text number p q was now before failed F G (ap (map g.N.Nor.device) (c.in-Ok-play_line.ensures.linked link.0 link.1 link.2)) (c.in-Ok-play_line.ensures.unshown link.0 link.1 link.2))
+    (text_forgotten text number p q initial was now before failed F G (ap (map g.N.Nor.device) (c.in-Ok-play_line.ensures.linked link.0 link.1 link.2)) (c.in-Ok-play_line.ensures.unshown link.0 link.1 initial link.2))
 
 pub returns-in-Err-play_line-clause-answer : goal.returns-in-Err-play_line-clause-answer
 returns-in-Err-play_line-clause-answer g c =
-    let F = g.W.Watcher.saw c.args.watcher.now in
-    let G = g.W.Watcher.saw c.play_line.new.watcher in
+    λ initial.
+    let F = g.W.Watcher.saw c.args.watcher.now initial in
+    let G = g.W.Watcher.saw c.play_line.new.watcher initial in
     let left = g.S.Source.left in
     let faults = g.S.Source.faults in
     let writes = g.K.Sink.faults in
@@ -116,13 +121,14 @@ returns-in-Err-play_line-clause-answer g c =
     let failed = Rose (writes c.args.out.now) (writes c.write_begun.new.out) in
     let text = c.text.result.now in
     let number = c.in-Ok-Some.number in
-    given_answer (Err (Stopped c.write_begun.result)) c.in-Ok-Some.field-0 number text c.args.reader.now c.next.new.self (AtEnd (left c.next.new.input)) (Rose (faults c.args.input.now) (faults c.next.new.input)) (λ more. Takes (left c.args.input.now) (left c.next.new.input) more) (replay_state p was before F) (replay_state q now after G) failed
+    given_answer (Err (Stopped c.write_begun.result)) c.in-Ok-Some.field-0 number text c.args.reader.now c.next.new.self (AtEnd (left c.next.new.input)) (Rose (faults c.args.input.now) (faults c.next.new.input)) (λ more. Takes (left c.args.input.now) (left c.next.new.input) more) initial (replay_state p was before F) (replay_state q now after G) failed
     c.in-Ok-Some.field-0-is c.text.ensures c.in-Ok-Some.ensures.answer
-    (text_begun c.in-Err-play_line.stop c.write_begun.result text number p q (gone_on q c.play_line.new.line) was now c.in-Ok.line c.clear.new.self.items c.play_line.new.line_report.text.items c.deref-in-Err-play_line.result.now before after failed F G c.in-Ok.ensures.spelled c.clear.ensures.items c.deref-in-Err-play_line.ensures.value
-    c.in-Err-play_line.ensures.played c.write_begun.ensures.written c.in-Err-play_line.ensures.kept)
+    (text_begun c.in-Err-play_line.stop c.write_begun.result text number p q (gone_on q c.play_line.new.line) initial was now c.in-Ok.line c.clear.new.self.items c.play_line.new.line_report.text.items c.deref-in-Err-play_line.result.now before after failed F G c.in-Ok.ensures.spelled c.clear.ensures.items c.deref-in-Err-play_line.ensures.value
+    (λ table. c.in-Err-play_line.ensures.played (based_on table initial)) c.write_begun.ensures.written c.in-Err-play_line.ensures.kept)
 
 pub returns-in-Err-clause-answer : goal.returns-in-Err-clause-answer
 returns-in-Err-clause-answer g c =
+    λ initial.
     let a = c.in-Err.ensures.answer in
     let left = g.S.Source.left in
     let faults = g.S.Source.faults in
@@ -130,11 +136,11 @@ returns-in-Err-clause-answer g c =
     let p = c.args.player.now in
     let before = g.K.Sink.written c.args.out.now in
     let failed = Rose (g.K.Sink.faults c.args.out.now) (g.K.Sink.faults c.args.out.now) in
-    let at = replay_state p old before (g.W.Watcher.saw c.args.watcher.now) in
+    let at = replay_state p old before (g.W.Watcher.saw c.args.watcher.now initial) in
     let n = c.args.reader.now.number + 1 in (
       a.0,
       a.1,
       next_halted c.in-Err.stop c.halted.result (c.args.reader.now.ahead ++ a.0) c.args.reader.now c.next.new.self (AtEnd (left c.next.new.input)) (Rose (faults c.args.input.now) (faults c.next.new.input))
-          (AllAsBefore at at) (λ r text. TextPlays r text n at at failed)
-          c.halted.ensures a.2 (record { player = refl; boards = refl; written = refl; seen = stays_same at.saw }) (λ text long. long_plays at n failed text long),
+          (AllAsBefore at at) (λ r text. TextPlays r text n initial at at failed)
+          c.halted.ensures a.2 (record { player = refl; boards = refl; written = refl; seen = stays_same at.saw }) (λ text long. long_plays initial at n failed text long),
     )

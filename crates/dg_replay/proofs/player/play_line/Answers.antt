@@ -29,7 +29,7 @@ returns-in-Motes-clause-played g c = λ basis behind stood.
     let m = c.requires.may in
     let is = c.in-Motes.is in
     rw is (motes_as basis.table c.play_motes.result c.args.player.now _ behind.lines behind.world c.in-Motes.motes _ _ _ basis.boards _ (rw is at m.stands) refl (rw is at m.fits)
-    (sym (length-map c.args.boards.now.items g.N.Nor.device)) c.play_motes.ensures.counted c.play_motes.ensures.missing refl c.play_motes.ensures.begun c.play_motes.ensures.unshown stood)
+    (sym (length-map c.args.boards.now.items g.N.Nor.device)) c.play_motes.ensures.counted c.play_motes.ensures.missing refl (c.play_motes.ensures.begun basis.boards) (c.play_motes.ensures.unshown basis.boards) stood)
 
 pub returns-in-Golden-clause-played : goal.returns-in-Golden-clause-played
 returns-in-Golden-clause-played g c = λ basis behind stood.

@@ -1,13 +1,12 @@
 use Rattle.std.proofs.Common.{[], ◌∷◌, map}
 use Rattle.dg_rounds.specs.Rounds.{times, paced}
 use Rattle.dg_script.specs.Items.{unreported}
-use Rattle.dg_replay.specs.Stages.{told_so_far}
 use Rattle.dg_replay.specs.Untouched.{KeepBytes}
-use Rattle.dg_replay.proofs.StepLemmas.{PlayedSoFar}
+use Rattle.dg_replay.proofs.StepLemmas.{PlayedSoFar, told_by}
 use Rattle.dg_replay.proofs.rounds.play_ticks.Given as goal
 
 -- this many ticks are played
 abbrev pub invariant-loop : goal.invariant-loop
 invariant-loop g l =
-    PlayedSoFar (unreported (times l.counter (paced l.mote ∷ []))) l.fn.world l.world (map g.N.Nor.device l.fn.boards.items) (map g.N.Nor.device l.boards.items) (told_so_far l.fn.line_report.text.items (g.W.Watcher.saw l.fn.watcher)) (told_so_far l.line_report.text.items (g.W.Watcher.saw l.watcher))
+    PlayedSoFar (unreported (times l.counter (paced l.mote ∷ []))) l.fn.world l.world (map g.N.Nor.device l.fn.boards.items) (map g.N.Nor.device l.boards.items) (told_by l.fn.line_report.text.items (g.W.Watcher.saw l.fn.watcher)) (told_by l.line_report.text.items (g.W.Watcher.saw l.watcher))
     × KeepBytes (unreported (times l.count (paced l.mote ∷ []))) (map g.N.Nor.device l.fn.boards.items) (map g.N.Nor.device l.boards.items)
