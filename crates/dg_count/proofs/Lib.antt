@@ -1,5 +1,4 @@
 mod FrameLemmas
+mod GivenLemmas
 mod FaultLemmas
-mod KindLemmas
 mod RunLemmas
-mod WholeLemmas

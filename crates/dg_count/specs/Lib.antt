@@ -1,4 +1,3 @@
 pub mod Ended
 pub mod Shown
-pub mod Wholes
 pub mod Runs

@@ -22,8 +22,10 @@ use Rattle.dg_events.specs.declared.uptime.Uptimes.{Uptimes}
 use Rattle.dg_cost_text.specs.declared.moment.Moment.{Moment}
 use Rattle.dg_nor.specs.Device.{Device}
 use Rattle.dg_rules.specs.Events.{mote_of}
-use Rattle.dg_count.specs.Wholes.{HasWholes, BringsWholes}
-use Rattle.dg_count.specs.declared.wholes.Wholes.{Wholes}
+use Rattle.dg_moments.specs.Looking.{ReadsBoards}
+use Rattle.dg_moments.specs.Wholes.{HasWholes}
+use Rattle.dg_moments.specs.Telling.{BringsWholes, LinesTell}
+use Rattle.dg_moments.specs.declared.wholes.Wholes.{Wholes}
 use Rattle.dg_count.specs.declared.counter.Counter.{Counter}
 
 -- this event, of which these lines are reported, was counted after those that were played before it
@@ -53,13 +55,16 @@ pub record IsSeenBy (counts : EventCounter) (times : Uptimes) (frames : FrameCou
   pub counted : HasCounted counts events
   pub timed : HasTimed times events
   pub framed : HasFrames frames events
-  pub noted : HasWholes wholes events
+  pub noted : HasWholes wholes stores events
+  pub told : LinesTell
   pub motes : placed ≡ length stores
   pub few : length stores ≤ most_motes
 
--- the counter has counted these events, at motes whose chips began with these stores
-abbrev pub HasSeen : Counter → (stores : List Store) → (events : List Played) → Type 0
-HasSeen c stores events = IsSeenBy c.events c.times c.frames c.wholes c.placed stores events
+-- The counter has counted these events, at motes whose chips began with these stores. What it was given of the boards with which
+-- the replay began is what they kept.
+abbrev pub HasSeen : Counter → (initial : List Device) → (stores : List Store) → (events : List Played) → Type 0
+HasSeen c initial stores events = ReadsBoards c.wholes.given.items initial
+    × IsSeenBy c.events c.times c.frames c.wholes c.placed stores events
 
 -- Each event that was played was counted once, and no count wrapped.
 pub record CountedRun (c : EventCounter) (played : List Played) : Type 0 where
@@ -73,6 +78,6 @@ pub record CountedReplay {table : List Row} {script : Script} (c : Counter) (cam
   pub events : CountedRun c.events came.played
   pub times : HasTimed c.times (events_played came.played)
   pub frames : HasFrames c.frames (events_played came.played)
-  pub wholes : HasWholes c.wholes (events_played came.played)
+  pub wholes : HasWholes c.wholes (stores_in (beginning_of came.ground came.done).world) (events_played came.played)
   pub motes : c.placed ≡ length (stores_in (beginning_of came.ground came.done).world)
   pub few : c.placed ≤ most_motes

@@ -30,13 +30,15 @@ pub fn replay_counted<S: Source, K: Sink, N: Nor>(
         (with_output (K.Sink, out.new) (with_input (S.Source, input.new) rest))) }
     ensures reads { S.faults input.old ≤ S.faults input.new }
     ensures writes { K.faults out.old ≤ K.faults out.new }
-    // each event that was played is counted once, whatever the status
-    ensures counted { HasSeen counter.old [] [] → (rest : Outside) (table : List Row)
-        → (x : Replayed table result
+    // each event that was played is counted once, whatever the status, if the counter was given what the boards keep
+    ensures counted { HasSeen counter.old (map (metered_device N.device) boards.old.items) [] [] → (rest : Outside)
+        (table : List Row) → (x : Replayed table result
         (with_boards (map (metered_device N.device) boards.old.items)
         (with_output (K.Sink, out.old) (with_input (S.Source, input.old) rest)))
         (with_boards (map (metered_device N.device) boards.new.items)
         (with_output (K.Sink, out.new) (with_input (S.Source, input.new) rest)))) × CountedReplay counter.new x.came }
 {
-    replay(alloc, input, out, boards, counter)
+    let status = replay(alloc, input, out, boards, counter);
+    counter.settle(boards);
+    status
 }

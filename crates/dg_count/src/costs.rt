@@ -1,40 +1,34 @@
 //! What is counted of a replay besides its events.
+ghost use Rattle.dg_events.specs.FrameCounters.{KeepsFrames};
 
 use crate::frames::FrameIndex;
-use crate::moments::Moments;
-use crate::mote::MoteCost;
 use crate::place::EventPlace;
-use crate::share::narrow;
 use dg_base::MOST_MOTES;
-use dg_control::IMAGES;
 use dg_cost_text::{Moment, Stamp};
-use dg_meter::{Metered, SLOTS};
+use dg_events::FrameCounter;
+use dg_meter::{Metered, SLOTS, Tally};
+use dg_moments::{Given, Wholes};
+use dg_mote_cost::{Have, HotCost, KeptPages, MoteCost, narrow};
 use dg_nor::Nor;
-use dg_volume::Kept;
 use std::alloc::{AllocError, Global};
 
 /// The room of a chip that was never used, in commits.
 const MOST_ROOM: u64 = 520_223;
 
-/// What a board keeps before the run.
-#[derive(Clone, Copy)]
-pub struct Given {
-    pub room: u32,
-    pub kept: [Option<Kept>; IMAGES],
-}
-
 /// What a replay costs besides its events, counted while it is played.
 #[derive(Drop)]
 pub struct Costs {
     alloc: Global,
-    /// What each board kept before the replay, if it is a volume.
-    pub given: Vec<Option<Given>>,
     pub motes: Vec<MoteCost>,
+    /// What is counted of a mote in many events.
+    pub hot: [HotCost; MOST_MOTES as usize],
     /// The frames that were sent, by their bytes.
     pub index: FrameIndex,
     /// The operations of each mote's chip up to the last event.
     pub operations: [u64; MOST_MOTES as usize],
-    pub moments: Moments,
+    /// Of these, the programs of pages.
+    pub page_programs: [u64; MOST_MOTES as usize],
+    pub pages: KeptPages,
     pub stamps: Vec<Stamp>,
     /// Whether stamps are wanted.
     pub timed: bool,
@@ -51,14 +45,15 @@ pub struct Costs {
 }
 
 impl Costs {
-    pub fn new(alloc: Global, given: Vec<Option<Given>>, timed: bool) -> Costs {
+    pub fn new(alloc: Global, timed: bool) -> Costs {
         Costs {
             alloc,
-            given,
             motes: Vec::new(alloc),
+            hot: [HotCost::none(); MOST_MOTES as usize],
             index: FrameIndex::new(alloc),
             operations: [0; MOST_MOTES as usize],
-            moments: Moments::new(alloc),
+            page_programs: [0; MOST_MOTES as usize],
+            pages: KeptPages::new(alloc),
             stamps: Vec::new(alloc),
             timed,
             count: 0,
@@ -75,6 +70,45 @@ impl Costs {
             Some(cost) => *cost,
             None => MoteCost::new(),
         }
+    }
+
+    /// What was counted of a mote in many events.
+    pub fn hot_of(&self, mote: usize) -> HotCost {
+        match self.hot.get(mote) {
+            Some(cost) => *cost,
+            None => HotCost::none(),
+        }
+    }
+
+    /// Takes over the operations that were made up to the end of the replay.
+    pub fn settle_operations<N: Nor>(&mut self, boards: &[Metered<N>]) {
+        for index in 0..boards.len() {
+            if index < self.motes.len() {
+                self.motes[index].tally = *boards[index].tally();
+            }
+        }
+    }
+
+    /// Takes over the packets of the pages that are not complete at the end of the replay.
+    pub fn settle_fills(&mut self, frames: &mut FrameCounter)
+        ensures { KeepsFrames frames.old frames.new }
+    {
+        for index in 0..self.hot.len() {
+            self.drop_fill(frames, index);
+        }
+    }
+
+    /// Whether the mote with this number made no operation on its board since the last event that it did.
+    #[inline(always)]
+    pub fn is_idle<N: Nor>(&self, mote: u8, boards: &[Metered<N>]) -> bool {
+        let index = usize::from(mote);
+        if self.operations.len() <= index {
+            return false;
+        }
+        if boards.len() <= index {
+            return false;
+        }
+        self.operations[index] == boards[index].tally().operations
     }
 
     /// Records whether memory ran out.
@@ -100,6 +134,7 @@ impl Costs {
         &mut self,
         motes: u8,
         used: Option<u32>,
+        wholes: &Wholes,
         boards: &[Metered<N>],
     ) -> Result<(), AllocError> {
         self.placed = true;
@@ -108,51 +143,45 @@ impl Costs {
             if let Some(board) = boards.get(usize::from(mote)) {
                 cost.format = *board.tally();
                 cost.tally = *board.tally();
-                if usize::from(mote) < self.operations.len() {
-                    self.operations[usize::from(mote)] = cost.tally.operations;
-                }
+                self.note_made(usize::from(mote), &cost.tally);
             }
-            cost.room_begin = match (used, self.given_at(mote)) {
+            cost.room_begin = match (used, wholes.given_at(mote)) {
                 (Some(used), _) => MOST_ROOM.saturating_sub(u64::from(used)),
                 (None, Some(given)) => u64::from(given.room),
                 (None, None) => 0,
             };
             self.motes.push(cost)?;
-            self.moments.keeps.push([None; SLOTS])?;
+            self.pages.add()?;
         }
         if used.is_none() {
             for mote in 0..motes {
-                self.keep_given(mote)?;
+                if let Some(given) = wholes.given_at(mote) {
+                    self.keep_given(mote, &given);
+                }
             }
         }
         Ok(())
     }
 
-    fn given_at(&self, mote: u8) -> Option<Given> {
-        match self.given.get(usize::from(mote)) {
-            Some(given) => *given,
-            None => None,
+    /// Notes the operations that were made on the chip of the mote with this index.
+    #[inline(always)]
+    pub fn note_made(&mut self, index: usize, tally: &Tally) {
+        if index < self.operations.len() {
+            self.operations[index] = tally.operations;
+            self.page_programs[index] = tally.programs.page.count;
         }
     }
 
     /// A mote keeps what its board kept before the run.
-    fn keep_given(&mut self, mote: u8) -> Result<(), AllocError> {
-        let Some(given) = self.given_at(mote) else {
-            return Ok(());
-        };
-        let now = Moment { event: 0, ms: 0 };
+    fn keep_given(&mut self, mote: u8, given: &Given) {
         for image in 1..SLOTS {
             if let Some(Some(kept)) = given.kept.get(image) {
-                self.moments.keep(
-                    mote,
-                    narrow(image),
-                    kept.version,
-                    kept.done,
-                    kept.pages,
-                    now,
-                )?;
+                let have = Have {
+                    version: kept.version,
+                    done: kept.done,
+                };
+                self.pages.set(mote, narrow(image), Some(have));
             }
         }
-        Ok(())
     }
 }

@@ -1,13 +1,23 @@
 //! What is counted of a replay.
-ghost use Rattle.std.specs.Prelude.{◌≡◌, false, [], IfNone};
+ghost use Rattle.std.specs.Prelude.{◌≡◌, true, false, List, [], length, IfNone};
+ghost use Rattle.dg_volume.specs.Store.{Store};
+ghost use Rattle.dg_rules.specs.Runs.{Played};
+ghost use Rattle.dg_nor.specs.Device.{Device};
+ghost use Rattle.dg_moments.specs.Looking.{ReadsBoards};
+ghost use Rattle.dg_moments.specs.Moments.{is_loaded, newest_at};
+ghost use Rattle.dg_moments.specs.Wholes.{KnowsImage};
 ghost use Rattle.dg_count.specs.Runs.{HasSeen};
 ghost use Rattle.dg_count.specs.Ended.{counts_at};
 
-use crate::costs::{Costs, Given};
+use crate::costs::Costs;
 use crate::place::EventPlace;
-use crate::wholes::Wholes;
 use dg_cost_text::Moment;
-use dg_events::{EventCounter, EventCounts, FrameCounter, Uptimes, add_one};
+use dg_events::{
+    EventCounter, EventCounts, FrameCounter, Uptimes, add_one, have_lines_tell_what_became_whole,
+};
+use dg_meter::Metered;
+use dg_moments::{Given, Wholes};
+use dg_nor::Nor;
 use std::alloc::Global;
 
 /// What a replay costs, counted while it is played.
@@ -28,17 +38,18 @@ pub struct Counter {
 }
 
 impl Counter {
-    /// Nothing was played.
+    /// Nothing was played. This is given of each board, by its mote: what it keeps, or nothing, if it is no volume.
     pub fn new(alloc: Global, given: Vec<Option<Given>>, timed: bool) -> Counter
-        ensures { HasSeen result [] [] }
+        ensures { (initial : List Device) → ReadsBoards given.items initial → HasSeen result initial [] [] }
     {
+        have_lines_tell_what_became_whole();
         Counter {
             events: EventCounter::new(),
             placed: 0,
             times: Uptimes::new(),
             frames: FrameCounter::new(alloc),
-            wholes: Wholes::new(alloc),
-            costs: Costs::new(alloc, given, timed),
+            wholes: Wholes::new(alloc, given),
+            costs: Costs::new(alloc, timed),
         }
     }
 
@@ -48,6 +59,15 @@ impl Counter {
         ensures wholes { result ≡ false → self.now.wholes.lost ≡ false }
     {
         self.costs.failed || self.frames.lost || self.wholes.lost
+    }
+
+    /// The replay ended on these boards. What was counted of events, times and frames stays counted.
+    pub fn settle<N: Nor>(&mut self, boards: &[Metered<N>])
+        ensures { (initial : List Device) (stores : List Store) (played : List Played) → HasSeen self.old initial stores played
+            → HasSeen self.new initial stores played }
+    {
+        self.costs.settle_operations(boards);
+        self.costs.settle_fills(&mut self.frames);
     }
 
     /// What was counted of the events at a mote, plus this event if it was there and found no image to start.
@@ -99,5 +119,14 @@ impl Counter {
             },
             None => self.now(),
         }
+    }
+
+    /// The last moment at which the newest version of an image that any mote keeps whole became whole at the last of the motes,
+    /// if they all keep it.
+    pub fn newest(&self, image: u8) -> Option<Moment>
+        ensures { (stores : List Store) (events : List Played) → self.now.placed ≡ length stores → is_loaded image ≡ true
+            → KnowsImage self.now.wholes stores events image → result ≡ newest_at stores events image }
+    {
+        self.wholes.newest(self.placed, image)
     }
 }

@@ -8,9 +8,9 @@ ghost use Rattle.dg_events.specs.Frames.{is_hearing};
 ghost use Rattle.dg_events.specs.RefusedFrames.{fault_brought};
 ghost use Rattle.dg_count.specs.Shown.{CountsFrames, IsNumberOf};
 
-use crate::kinds::kind_of;
 use dg_events::{FrameCounter, HeardFrame};
 use dg_frame::{FrameFault, refusal};
+use dg_mote_cost::kind_of;
 use dg_rules::Event;
 use dg_script::Report;
 use dg_world::World;
@@ -40,7 +40,6 @@ pub fn count_sent(
 }
 
 /// Why a mote refuses the frame with this number, None if it reads the frame, or there is none.
-#[inline(always)]
 fn fault_of(world: &World, mote: u8, number: usize) -> Option<FrameFault>
     ensures { (boards : List Device) (w : RuleWorld) → IsWorld world.now boards w
         → fault_brought (wide_at w mote) (option_map (λ s. s.bytes) (frame_at w number)) ≡ result }
@@ -51,8 +50,19 @@ fn fault_of(world: &World, mote: u8, number: usize) -> Option<FrameFault>
     }
 }
 
-/// Counts the frame with this number, which an event brings to a mote, unless the event is refused.
+/// Why a wide mote refuses the frame with this number: it reads each frame of a mote, so that this costs nothing.
 #[inline(always)]
+fn wide_fault(world: &World, number: usize) -> Option<FrameFault>
+    ensures { (boards : List Device) (w : RuleWorld) → IsWorld world.now boards w
+        → fault_brought true (option_map (λ s. s.bytes) (frame_at w number)) ≡ result }
+{
+    match world.frame(number) {
+        Some(message) => refusal(message, true),
+        None => None,
+    }
+}
+
+/// Counts the frame with this number, which an event brings to a mote, unless the event is refused.
 pub fn count_heard(
     frames: &mut FrameCounter,
     world: &World,
@@ -67,4 +77,23 @@ pub fn count_heard(
     ensures { CountsFrames frames.old frames.new world.now event.now reports.now }
 {
     frames.hear(event, mote, number, fault_of(world, mote, number), reports)
+}
+
+/// The same at a wide mote.
+#[inline(always)]
+pub fn count_wide(
+    frames: &mut FrameCounter,
+    world: &World,
+    event: &Event,
+    mote: u8,
+    number: usize,
+    reports: &[Report],
+) -> Option<HeardFrame>
+    requires hears { is_hearing event.now ≡ true }
+    requires mote { mote ≡ mote_of event.now }
+    requires number { IsNumberOf world.now event.now number }
+    requires wide { (boards : List Device) (w : RuleWorld) → IsWorld world.now boards w → wide_at w mote ≡ true }
+    ensures { CountsFrames frames.old frames.new world.now event.now reports.now }
+{
+    frames.hear(event, mote, number, wide_fault(world, number), reports)
 }

@@ -1,11 +1,7 @@
-//! The outcomes of the frames that were sent, and how they are found by their bytes.
-ghost use Rattle.std.specs.Prelude.{◌≡◌, ◌*◌, ◌-◌, ◌^◌, min};
-ghost use Rattle.dg_events.specs.Frames.{frame_size};
+//! The frames that were sent, by their bytes.
 
-use crate::share::narrow;
-use dg_events::{FrameCounter, SENT_KINDS, SentFrame, bit, frame_bytes};
+use dg_events::{FrameCounter, bit};
 use dg_frame::write;
-use dg_meter::Share;
 use dg_world::World;
 use std::alloc::{AllocError, Global};
 use std::collections::BTreeMap;
@@ -97,104 +93,5 @@ fn has_bytes(world: &World, number: usize, bytes: &[u8]) -> bool {
     match world.frame(number) {
         Some(message) => write(message).as_slice() == bytes,
         None => false,
-    }
-}
-
-/// Its bytes came to a mote from outside.
-pub const TRACED: u8 = 2;
-
-/// It was put into a page.
-pub const PUT: u8 = 4;
-
-/// Its bytes came from outside and were put into a page.
-pub const TRACED_PUT: u8 = 8;
-
-/// It was put into a page that became complete.
-pub const USED: u8 = 16;
-
-/// The number of sets of these.
-const STATES: usize = 32;
-
-/// The number of kinds of frames with each of these sets.
-const CLASSES: usize = 128;
-
-/// How many frames of each kind a mote sent, by their outcomes.
-#[derive(Clone, Copy)]
-pub struct SentBy {
-    /// By the kind, and then by the set.
-    classes: [u64; CLASSES],
-}
-
-/// The place of a kind and a set of outcomes.
-#[inline(always)]
-fn class_of(kind: u8, state: u8) -> usize {
-    usize::from(kind) * STATES + usize::from(state)
-}
-
-/// The frames that each of this many motes sent, by their outcomes.
-pub fn sent_by_each(
-    alloc: Global,
-    frames: &FrameCounter,
-    motes: usize,
-) -> Result<Vec<SentBy>, AllocError> {
-    let mut each = Vec::new(alloc);
-    for _ in 0..motes {
-        each.push(SentBy::none())?;
-    }
-    for frame in &frames.sent {
-        let by = usize::from(frame.by);
-        if by < each.len() {
-            each[by].count(frame);
-        }
-    }
-    Ok(each)
-}
-
-impl SentBy {
-    /// A mote that sent nothing.
-    pub fn none() -> SentBy {
-        SentBy {
-            classes: [0; CLASSES],
-        }
-    }
-
-    #[inline(always)]
-    fn count(&mut self, frame: &SentFrame) {
-        let class = class_of(frame.kind, frame.state);
-        if class < self.classes.len() {
-            self.classes[class] = self.classes[class].wrapping_add(1);
-        }
-    }
-
-    /// How many frames of a kind have none of the outcomes of this set.
-    pub fn without(&self, kind: usize, set: u8) -> u64 {
-        let mut number: u64 = 0;
-        for state in 0..STATES {
-            let class = class_of(narrow(kind), narrow(state));
-            if state & usize::from(set) == 0 && class < self.classes.len() {
-                number = number.saturating_add(self.classes[class]);
-            }
-        }
-        number
-    }
-
-    /// The same of all kinds.
-    pub fn all_without(&self, set: u8) -> u64 {
-        let mut number: u64 = 0;
-        for kind in 0..SENT_KINDS {
-            number = number.saturating_add(self.without(kind, set));
-        }
-        number
-    }
-}
-
-/// `count` frames of a kind, with their bytes.
-pub fn share_of(kind: usize, count: u64) -> Share
-    ensures count { result.count ≡ count }
-    ensures bytes { result.bytes ≡ min (count * frame_size kind) (2 ^ 64 - 1) }
-{
-    Share {
-        count,
-        bytes: count.saturating_mul(frame_bytes(kind) as u64),
     }
 }

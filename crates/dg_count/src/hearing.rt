@@ -2,50 +2,12 @@
 ghost use Rattle.dg_events.specs.FrameCounters.{KeepsFrames};
 
 use crate::costs::Costs;
-use crate::frames::{PUT, TRACED, TRACED_PUT, USED};
-use crate::kinds::{CUT_ANSWER, answer_kind, bytes_kind};
-use crate::mote::{FILL, MOTES, MoteCost};
-use crate::work::Work;
-use dg_events::{FrameCounter, HeardFrame, SENT_KINDS, Told, add_one, add_share, bit, fault_kind};
+use dg_events::{FrameCounter, HeardFrame, SentFrame, Told, add_one, add_share, bit, fault_kind};
 use dg_mote::Heard;
+use dg_mote_cost::{CUT_ANSWER, FILL, PUT, TRACED_PUT, USED, Work, bytes_kind};
 use dg_rules::Event;
 use dg_world::World;
 use std::alloc::AllocError;
-
-impl MoteCost {
-    /// A packet of the frame with this number, 0 if it came from outside, was put into the page that is being filled.
-    fn fill_with(&mut self, number: usize) {
-        self.put = self.put.saturating_add(1);
-        if self.filled < FILL {
-            self.fill[self.filled] = number;
-            self.filled += 1;
-        }
-    }
-}
-
-/// The frame with this number was put into a page, if a packet was.
-fn mark_put(frames: &mut FrameCounter, number: usize, work: Work)
-    ensures { KeepsFrames frames.old frames.new }
-{
-    if 0 < work.puts {
-        frames.mark(number, 0, PUT);
-    }
-}
-
-/// The bytes of this frame, if it was found, came to a mote from outside.
-fn mark_traced(frames: &mut FrameCounter, found: Option<usize>, mote: u8, work: Work)
-    ensures { KeepsFrames frames.old frames.new }
-{
-    let Some(number) = found else {
-        return;
-    };
-    let state = if 0 < work.puts {
-        TRACED | TRACED_PUT
-    } else {
-        TRACED
-    };
-    frames.mark(number, bit(mote), state);
-}
 
 /// The number of the frame that an event brings to its mote, 0 if the frame comes from outside.
 fn number_of(world: &World, event: &Event) -> usize {
@@ -57,18 +19,65 @@ fn number_of(world: &World, event: &Event) -> usize {
 }
 
 impl Costs {
+    /// The frame with this number has more outcomes.
+    #[inline(always)]
+    pub fn mark(&mut self, frames: &mut FrameCounter, number: usize, outcomes: u8)
+        ensures { KeepsFrames frames.old frames.new }
+    {
+        if let Some(before) = frames.mark(number, 0, outcomes) {
+            self.marked(&before, outcomes);
+        }
+    }
+
+    /// A frame has more outcomes than before.
+    #[inline(always)]
+    fn marked(&mut self, before: &SentFrame, outcomes: u8) {
+        let by = usize::from(before.by);
+        if by < self.hot.len() {
+            self.hot[by].mark(before, outcomes);
+        }
+    }
+
+    /// The bytes of this frame, if it was found, came to a mote from outside.
+    fn mark_traced(&mut self, frames: &mut FrameCounter, found: Option<usize>, mote: u8, work: Work)
+        ensures { KeepsFrames frames.old frames.new }
+    {
+        let Some(number) = found else {
+            return;
+        };
+        let outcomes = if 0 < work.puts { TRACED_PUT } else { 0 };
+        if let Some(before) = frames.mark(number, bit(mote), outcomes) {
+            self.traced(&before, outcomes);
+        }
+    }
+
+    /// The bytes of a frame came from outside, which has more outcomes than before.
+    fn traced(&mut self, before: &SentFrame, outcomes: u8) {
+        let by = usize::from(before.by);
+        if by < self.hot.len() {
+            self.hot[by].trace(before);
+            self.hot[by].mark(before, outcomes);
+        }
+    }
+
     /// A frame was delivered to a mote.
     #[inline(always)]
     pub fn heard_frame(&mut self, mote: u8, heard: HeardFrame) {
-        let by = usize::from(heard.by);
-        let kind = usize::from(heard.kind);
         let index = usize::from(mote);
-        if index < self.motes.len() && by < MOTES && kind < SENT_KINDS {
-            let cost = &mut self.motes[index];
-            cost.from[by][kind] = cost.from[by][kind].wrapping_add(1);
-            if heard.fresh {
-                cost.first[by] = cost.first[by].wrapping_add(1);
-            }
+        if self.hot.len() <= index {
+            return;
+        }
+        if self.hot[index].hear(bit(mote), heard) {
+            self.reached(heard);
+        }
+    }
+
+    /// A frame was heard that no mote heard before.
+    #[inline(always)]
+    fn reached(&mut self, heard: HeardFrame) {
+        let by = usize::from(heard.by);
+        if by < self.hot.len() {
+            self.hot[by].reach(heard);
         }
     }
 
@@ -76,8 +85,16 @@ impl Costs {
     #[inline(always)]
     pub fn answered(&mut self, mote: u8, heard: Heard) {
         let index = usize::from(mote);
-        if index < self.motes.len() {
-            add_one(&mut self.motes[index].answers, answer_kind(heard));
+        if index < self.hot.len() {
+            self.hot[index].answer(heard);
+        }
+    }
+
+    /// A frame was delivered to a mote that gave no answer, since its power was cut.
+    fn answered_none(&mut self, mote: u8) {
+        let index = usize::from(mote);
+        if index < self.hot.len() {
+            add_one(&mut self.hot[index].answers, CUT_ANSWER);
         }
     }
 
@@ -95,7 +112,7 @@ impl Costs {
         ensures { KeepsFrames frames.old frames.new }
     {
         let found = self.index.find(world, frames, mote, bytes)?;
-        mark_traced(frames, found, mote, work);
+        self.mark_traced(frames, found, mote, work);
         self.note_outside(mote, bytes, found.is_some(), heard);
         self.fill_by(frames, mote, 0, work);
         Ok(())
@@ -115,11 +132,10 @@ impl Costs {
         if let Some(Heard::Refused(fault)) = heard {
             add_share(&mut cost.refused_outside, fault_kind(fault), bytes.len());
         }
-        let answer = match heard {
-            Some(heard) => answer_kind(heard),
-            None => CUT_ANSWER,
-        };
-        add_one(&mut cost.answers, answer);
+        match heard {
+            Some(heard) => self.answered(mote, heard),
+            None => self.answered_none(mote),
+        }
     }
 
     /// A mote heard a frame, and gave this answer.
@@ -129,18 +145,40 @@ impl Costs {
         self.answered(mote, answer);
     }
 
+    /// Counts that a packet of the frame with this number was put into the page that the mote at this index fills.
+    #[inline(always)]
+    pub fn fill_one(&mut self, frames: &mut FrameCounter, index: usize, number: usize)
+        ensures { KeepsFrames frames.old frames.new }
+    {
+        if index < self.hot.len() && !self.hot[index].fill_with(number) {
+            self.mark_put(frames, number);
+        }
+    }
+
+    /// Counts that packet if it was put into the page.
+    fn fill_some(&mut self, frames: &mut FrameCounter, index: usize, number: usize, work: Work)
+        ensures { KeepsFrames frames.old frames.new }
+    {
+        if 0 < work.puts {
+            self.fill_one(frames, index, number);
+        }
+    }
+
+    /// The packet of the frame with this number was put into a page, for which there was no room in the list.
+    #[cold]
+    #[inline(never)]
+    fn mark_put(&mut self, frames: &mut FrameCounter, number: usize)
+        ensures { KeepsFrames frames.old frames.new }
+    {
+        self.mark(frames, number, PUT);
+    }
+
     /// Counts the packet of this frame if it was put into a page, and the page if it became complete.
     pub fn fill_by(&mut self, frames: &mut FrameCounter, mote: u8, number: usize, work: Work)
         ensures { KeepsFrames frames.old frames.new }
     {
-        mark_put(frames, number, work);
         let index = usize::from(mote);
-        if self.motes.len() <= index {
-            return;
-        }
-        if 0 < work.puts {
-            self.motes[index].fill_with(number);
-        }
+        self.fill_some(frames, index, number, work);
         if 0 < work.sealed {
             self.use_fill(frames, index);
         }
@@ -184,8 +222,32 @@ impl Costs {
             return;
         }
         self.heard_frame(mote, heard);
-        if usize::from(mote) < self.motes.len() {
-            add_one(&mut self.motes[usize::from(mote)].answers, CUT_ANSWER);
+        self.answered_none(mote);
+    }
+
+    /// The mote at this index fills no page any more. The packets of the last one have these outcomes.
+    #[inline(always)]
+    fn end_fill(&mut self, frames: &mut FrameCounter, index: usize, outcomes: u8)
+        ensures { KeepsFrames frames.old frames.new }
+    {
+        if self.hot.len() <= index {
+            return;
+        }
+        let filled = self.hot[index].filled.min(FILL);
+        self.hot[index].filled = 0;
+        for place in 0..filled {
+            self.mark_at(frames, index, place, outcomes);
+        }
+    }
+
+    /// The packet at this place of that page has more outcomes.
+    #[inline(always)]
+    fn mark_at(&mut self, frames: &mut FrameCounter, index: usize, place: usize, outcomes: u8)
+        ensures { KeepsFrames frames.old frames.new }
+    {
+        if index < self.hot.len() && place < FILL {
+            let number = self.hot[index].fill[place];
+            self.mark(frames, number, outcomes);
         }
     }
 
@@ -194,24 +256,23 @@ impl Costs {
     fn use_fill(&mut self, frames: &mut FrameCounter, index: usize)
         ensures { KeepsFrames frames.old frames.new }
     {
-        for place in 0..FILL {
-            self.use_packet(frames, index, place);
-        }
-        if index < self.motes.len() {
-            self.motes[index].filled = 0;
+        self.end_fill(frames, index, PUT + USED);
+    }
+
+    /// A mote fills its last page no longer if it began another one.
+    pub fn drop_if_begun(&mut self, frames: &mut FrameCounter, mote: u8, work: Work)
+        ensures { KeepsFrames frames.old frames.new }
+    {
+        if work.begun {
+            self.drop_fill(frames, usize::from(mote));
         }
     }
 
-    /// The packet at this place of that page was put into a page that became complete.
-    fn use_packet(&self, frames: &mut FrameCounter, index: usize, place: usize)
+    /// The mote at this index no longer fills its last page, which is not complete.
+    #[inline(never)]
+    pub fn drop_fill(&mut self, frames: &mut FrameCounter, index: usize)
         ensures { KeepsFrames frames.old frames.new }
     {
-        if self.motes.len() <= index {
-            return;
-        }
-        let cost = &self.motes[index];
-        if place < FILL && place < cost.filled {
-            frames.mark(cost.fill[place], 0, USED);
-        }
+        self.end_fill(frames, index, PUT);
     }
 }

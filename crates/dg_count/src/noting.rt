@@ -8,11 +8,11 @@ ghost use Rattle.dg_count.specs.Shown.{CountsFrames, IsNumberOf};
 use crate::costs::Costs;
 use crate::frame_counting::count_heard;
 use crate::place::{EventPlace, place_of};
-use crate::work::{NO_WORK, Work};
 use dg_cost_text::Moment;
-use dg_events::{FrameCounter, HeardFrame, NOTHING_TOLD, Told, Uptimes, event_kind, told_by};
+use dg_events::{FrameCounter, HeardFrame, NOTHING_TOLD, Told, Uptimes, told_by};
 use dg_meter::{Metered, Tally};
 use dg_mote::Heard;
+use dg_mote_cost::{Have, NO_WORK, Work};
 use dg_nor::Nor;
 use dg_rules::Event;
 use dg_script::Report;
@@ -22,46 +22,30 @@ use std::alloc::AllocError;
 /// The number of ticks among the kinds of events.
 pub const TICK: usize = 0;
 
-/// Whether these lines report a frame that was sent, and nothing else.
-fn are_sent(reports: &[Report]) -> bool {
-    for report in reports {
-        match report {
-            Report::SentAdvert { .. } | Report::SentRequest { .. } | Report::SentData { .. } => {}
-            _ => return false,
-        }
-    }
-    true
-}
-
 impl Costs {
     /// Notes what a mote keeps, by these lines.
-    fn note_kept<N: Nor>(
-        &mut self,
-        mote: u8,
-        board: &Metered<N>,
-        reports: &[Report],
-        now: Moment,
-    ) -> Result<(), AllocError> {
+    fn note_kept(&mut self, mote: u8, reports: &[Report]) {
         for report in reports {
             match report {
-                Report::Lost { image, .. } => self.moments.lose(mote, *image),
+                Report::Lost { image, .. } => self.pages.set(mote, *image, None),
                 Report::Have {
                     image,
                     version,
                     pages: done,
                     ..
                 } => {
-                    let all = board.pages(usize::from(*image));
-                    self.moments.keep(mote, *image, *version, *done, all, now)?;
+                    let have = Have {
+                        version: *version,
+                        done: *done,
+                    };
+                    self.pages.set(mote, *image, Some(have));
                 }
                 _ => {}
             }
         }
-        Ok(())
     }
 
-    /// A tick of a mote was applied, after `dt` milliseconds. Most ticks report nothing and leave the chip unchanged.
-    #[inline(always)]
+    /// A tick of a mote was applied that reports something else than a frame that was sent, or made operations.
     pub fn note_tick_cost<N: Nor>(
         &mut self,
         frames: &mut FrameCounter,
@@ -76,54 +60,27 @@ impl Costs {
         ensures { KeepsFrames frames.old frames.new }
     {
         let index = usize::from(mote);
-        if self.operations.len() <= index {
-            return Ok(());
-        }
         if boards.len() <= index {
             return Ok(());
         }
-        let board = &boards[index];
-        if !reports.is_empty() || self.operations[index] != board.tally().operations {
-            return self.note_busy_tick(frames, world, event, number, times, board, reports);
-        }
-        Ok(())
+        self.note_all(
+            frames,
+            world,
+            event,
+            number,
+            times,
+            None,
+            &boards[index],
+            reports,
+        )
     }
 
-    /// A tick was applied that reports something or made operations. Most of these sent a frame and made none.
-    #[inline(never)]
-    fn note_busy_tick<N: Nor>(
-        &mut self,
-        frames: &mut FrameCounter,
-        world: &World,
-        event: &Event,
-        number: u64,
-        times: &Uptimes,
-        board: &Metered<N>,
-        reports: &[Report],
-    ) -> Result<(), AllocError>
-        ensures { KeepsFrames frames.old frames.new }
-    {
-        let index = usize::from(place_of(event).mote);
-        if index < self.operations.len()
-            && self.operations[index] == board.tally().operations
-            && are_sent(reports)
-        {
-            let now = Moment {
-                event: number,
-                ms: times.ms,
-            };
-            self.stamp(reports.len(), now);
-            return Ok(());
-        }
-        self.note_all(frames, world, event, number, times, None, board, reports)
-    }
-
-    /// A mote heard the frame with this number, and nothing is reported of it.
+    /// A mote heard the frame with this number in an event of this kind, and nothing is reported of it.
     #[inline(always)]
     pub fn note_hearing_cost<N: Nor>(
         &mut self,
         frames: &mut FrameCounter,
-        event: &Event,
+        kind: usize,
         mote: u8,
         number: usize,
         heard: HeardFrame,
@@ -132,33 +89,49 @@ impl Costs {
     )
         ensures { KeepsFrames frames.old frames.new }
     {
-        let index = usize::from(mote);
-        if self.operations.len() <= index {
-            return;
-        }
-        if boards.len() <= index {
-            return;
-        }
-        let tally = boards[index].tally();
         self.note_frame(mote, heard, answer);
-        if self.operations[index] != tally.operations {
-            self.note_put(frames, event, mote, number, tally);
+        let index = usize::from(mote);
+        if boards.len() <= index || self.is_idle(mote, boards) {
+            return;
         }
+        self.note_put(frames, kind, mote, number, boards[index].tally());
     }
 
-    /// A mote heard the frame with this number, of which nothing is reported, and its chip changed.
+    /// A mote heard the frame with this number, of which nothing is reported, and its chip changed. Mostly a packet was put.
     #[inline(never)]
     fn note_put(
         &mut self,
         frames: &mut FrameCounter,
-        event: &Event,
+        kind: usize,
         mote: u8,
         number: usize,
         tally: &Tally,
     )
         ensures { KeepsFrames frames.old frames.new }
     {
-        let work = self.note_work(mote, event_kind(event), tally, false, &[]);
+        let index = usize::from(mote);
+        if self.note_one_put(index, kind, tally) {
+            self.fill_one(frames, index, number);
+            return;
+        }
+        self.note_more(frames, kind, mote, number, tally);
+    }
+
+    /// The same, where the chip changed by more than one packet.
+    #[cold]
+    #[inline(never)]
+    fn note_more(
+        &mut self,
+        frames: &mut FrameCounter,
+        kind: usize,
+        mote: u8,
+        number: usize,
+        tally: &Tally,
+    )
+        ensures { KeepsFrames frames.old frames.new }
+    {
+        let work = self.note_work(mote, kind, tally, false, &[]);
+        self.drop_if_begun(frames, mote, work);
         self.fill_by(frames, mote, number, work);
     }
 
@@ -243,13 +216,12 @@ impl Costs {
         self.stamp(reports.len(), now);
         let told = told_by(reports);
         let work = self.note_work(mote, kind, board.tally(), told.off, reports);
+        self.drop_if_begun(frames, mote, work);
         if !reports.is_empty() || kind == TICK {
             self.note_power(world, mote, event, now.ms, told, work);
         }
         self.note_brought(frames, world, mote, event, heard, told, work)?;
-        if !reports.is_empty() {
-            self.note_kept(mote, board, reports, now)?;
-        }
+        self.note_kept(mote, reports);
         Ok(())
     }
 
@@ -273,6 +245,8 @@ impl Costs {
     }
 
     /// A start found no image.
+    #[cold]
+    #[inline(never)]
     pub fn note_end<N: Nor>(&mut self, place: EventPlace, boards: &[Metered<N>]) {
         self.ended = Some(place);
         let EventPlace { mote, kind, .. } = place;

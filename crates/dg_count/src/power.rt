@@ -1,26 +1,10 @@
 //! The power of motes, by what is reported of events.
 
 use crate::costs::Costs;
-use crate::mote::MoteCost;
-use crate::work::Work;
 use dg_events::Told;
+use dg_mote_cost::Work;
 use dg_rules::Event;
 use dg_world::World;
-
-/// A mote that has run for this many milliseconds clears the count of short starts.
-const CLEARS: u64 = 5_000;
-
-impl MoteCost {
-    /// A cut fired in an event. In a tick it interrupts a restart, unless the tick clears the count of short starts.
-    fn cut(&mut self, event: &Event, ms: u64) {
-        if let Event::Tick { .. } = event {
-            let clears = 0 < self.gesture && CLEARS <= ms.saturating_sub(self.started);
-            if !clears {
-                self.cut_restarts = self.cut_restarts.saturating_add(1);
-            }
-        }
-    }
-}
 
 impl Costs {
     /// Counts starts and cuts by the outcome of an event.

@@ -1,16 +1,12 @@
 //! The watcher of a replay that counts what it is shown.
-ghost use Rattle.std.specs.Prelude.{◌≡◌, true, false, map};
+ghost use Rattle.std.specs.Prelude.{◌≡◌, false, map};
 ghost use Rattle.dg_meter.specs.Meters.{metered_device};
-ghost use Rattle.dg_rules.specs.Events.{mote_of, dt_of};
-ghost use Rattle.dg_events.specs.Kinds.{event_number};
 ghost use Rattle.dg_events.specs.Frames.{is_hearing};
-ghost use Rattle.dg_count.specs.Runs.{CountsEvent, TimesEvent, HasSeen};
-ghost use Rattle.dg_count.specs.Shown.{CountsFrames, IsNumberOf};
-ghost use Rattle.dg_count.specs.Runs.{NotesWholes};
+ghost use Rattle.dg_count.specs.Runs.{CountsEvent, HasSeen, NotesWholes, TimesEvent};
+ghost use Rattle.dg_count.specs.Shown.{CountsFrames};
 
 use crate::counter::Counter;
-use crate::frame_counting::{count_heard, count_sent};
-use crate::noting::TICK;
+use crate::frame_counting::count_sent;
 use crate::place::place_of;
 use dg_meter::Metered;
 use dg_nor::Nor;
@@ -19,100 +15,7 @@ use dg_rules::Event;
 use dg_script::Report;
 use dg_world::World;
 
-const HEAR: usize = 1;
-
-const LAST: usize = 2;
-
 impl Counter {
-    /// A tick of a mote was applied, after `dt` milliseconds.
-    #[inline(always)]
-    fn note_tick<N: Nor>(
-        &mut self,
-        world: &World,
-        event: &Event,
-        mote: u8,
-        dt: u32,
-        boards: &[Metered<N>],
-        reports: &[Report],
-    )
-        requires kind { event_number event.now ≡ 0 }
-        requires mote { mote ≡ mote_of event.now }
-        requires dt { dt ≡ dt_of event.now }
-        ensures counts { CountsEvent self.old.events self.new.events event.now reports.now }
-        ensures placed { self.new.placed ≡ self.old.placed }
-        ensures times { TimesEvent self.old self.new event.now reports.now }
-        ensures frames { CountsFrames self.old.frames self.new.frames world.now event.now reports.now }
-        ensures wholes { NotesWholes self.old self.new (map (metered_device N.device) boards.now) event.now reports.now }
-    {
-        self.events.note(event, TICK, mote, reports);
-        self.times.note(self.placed, mote, dt, reports);
-        count_sent(&mut self.frames, world, event, mote, reports);
-        let number = self.events.all;
-        let done = self.costs.note_tick_cost(
-            &mut self.frames,
-            world,
-            event,
-            number,
-            &self.times,
-            mote,
-            boards,
-            reports,
-        );
-        self.costs.unless(done);
-        self.wholes
-            .note(self.placed, mote, boards, reports, number, self.times.ms);
-    }
-
-    /// An event of this kind was applied that brings a mote the frame with this number, after `dt` milliseconds.
-    #[inline(always)]
-    fn note_hearing<N: Nor>(
-        &mut self,
-        world: &World,
-        event: &Event,
-        kind: usize,
-        mote: u8,
-        dt: u32,
-        frame: usize,
-        boards: &[Metered<N>],
-        reports: &[Report],
-    )
-        requires kind { kind ≡ event_number event.now }
-        requires mote { mote ≡ mote_of event.now }
-        requires dt { dt ≡ dt_of event.now }
-        requires hears { is_hearing event.now ≡ true }
-        requires number { IsNumberOf world.now event.now frame }
-        ensures counts { CountsEvent self.old.events self.new.events event.now reports.now }
-        ensures placed { self.new.placed ≡ self.old.placed }
-        ensures times { TimesEvent self.old self.new event.now reports.now }
-        ensures frames { CountsFrames self.old.frames self.new.frames world.now event.now reports.now }
-        ensures wholes { NotesWholes self.old self.new (map (metered_device N.device) boards.now) event.now reports.now }
-    {
-        self.events.note(event, kind, mote, reports);
-        self.times.note(self.placed, mote, dt, reports);
-        if !reports.is_empty() {
-            let number = self.events.all;
-            self.costs.note_told_cost(
-                &mut self.frames,
-                world,
-                event,
-                number,
-                &self.times,
-                mote,
-                frame,
-                boards,
-                reports,
-            );
-            self.wholes
-                .note(self.placed, mote, boards, reports, number, self.times.ms);
-            return;
-        }
-        let Some(heard) = count_heard(&mut self.frames, world, event, mote, frame, reports) else {
-            return;
-        };
-        let answer = world.heard();
-        self.costs.note_hearing_cost(&mut self.frames, event, mote, frame, heard, boards, answer);
-    }
-
     /// Another event was applied.
     #[inline(never)]
     fn note_other<N: Nor>(
@@ -157,7 +60,7 @@ impl Counter {
 }
 
 impl<N: Nor> Watcher<Metered<N>> for Counter {
-    ghost saw = { λ counter stores events. HasSeen counter stores events };
+    ghost saw = { λ counter initial stores events. HasSeen counter initial stores events };
 
     fn begun(&mut self, motes: u8) {
         self.costs.count = motes;
@@ -165,11 +68,9 @@ impl<N: Nor> Watcher<Metered<N>> for Counter {
 
     fn placed(&mut self, motes: u8, used: Option<u32>, boards: &[Metered<N>]) {
         self.placed = motes;
-        let done = self.costs.place(motes, used, boards);
+        let done = self.costs.place(motes, used, &self.wholes, boards);
         self.costs.unless(done);
-        if used.is_none() {
-            self.wholes.begin(motes, &self.costs.given);
-        }
+        self.wholes.place(motes, used.is_none());
     }
 
     fn taken(&mut self) {
@@ -187,23 +88,21 @@ impl<N: Nor> Watcher<Metered<N>> for Counter {
         reports: &[Report],
     ) {
         match event {
-            Event::Tick { mote, dt, .. } => {
-                self.note_tick(world, event, *mote, *dt, boards, reports)
+            Event::Tick { mote, dt, word } => {
+                self.note_tick(world, event, *mote, *dt, *word, boards, reports)
             }
             Event::Hear {
                 mote,
                 dt,
+                word,
                 frame,
-                ..
             } => {
-                let frame = *frame as usize;
                 self.costs.scheduled = self.costs.scheduled || !reported;
-                self.note_hearing(world, event, HEAR, *mote, *dt, frame, boards, reports)
+                self.note_hear(world, event, *mote, *dt, *word, *frame, boards, reports)
             }
-            Event::Last { from, to, dt, .. } => {
-                let frame = world.last_frame(*from);
+            Event::Last { from, to, dt, word } => {
                 self.costs.scheduled = self.costs.scheduled || !reported;
-                self.note_hearing(world, event, LAST, *to, *dt, frame, boards, reports)
+                self.note_last(world, event, *from, *to, *dt, *word, boards, reports)
             }
             _ => {
                 self.costs.scheduled = self.costs.scheduled || !reported;
@@ -212,6 +111,7 @@ impl<N: Nor> Watcher<Metered<N>> for Counter {
         }
     }
 
+    #[inline(always)]
     fn ended(&mut self, event: &Event, boards: &[Metered<N>]) {
         self.costs.note_end(place_of(event), boards);
     }

@@ -1,97 +1,10 @@
 //! The work of an event on a chip, by the operations that it makes.
 
 use crate::costs::Costs;
-use crate::mote::MoteCost;
-use crate::share::add;
 use dg_events::add_one;
 use dg_meter::{Kind, Operation, Region, Tally};
+use dg_mote_cost::{NO_WORK, ONE_PUT, Work, add};
 use dg_script::Report;
-
-/// The programs by which a page is copied.
-const COPY_PROGRAMS: u64 = 8;
-
-/// The programs of a control sector by which a commit is made.
-const COMMIT_PROGRAMS: u64 = 2;
-
-/// The work of an event on a chip.
-#[derive(Clone, Copy)]
-pub struct Work {
-    pub puts: u64,
-    pub sealed: u64,
-    pub copied: bool,
-    pub any: bool,
-}
-
-/// No operation was made.
-pub const NO_WORK: Work = Work {
-    puts: 0,
-    sealed: 0,
-    copied: false,
-    any: false,
-};
-
-/// A packet was put into a page.
-const ONE_PUT: Work = Work {
-    puts: 1,
-    sealed: 0,
-    copied: false,
-    any: true,
-};
-
-/// How many operations of a kind were made in a region and not interrupted.
-fn finished(
-    kind: Kind,
-    region: Region,
-    before: &Tally,
-    after: &Tally,
-    cut: Option<Operation>,
-) -> u64 {
-    let made = after
-        .of(kind)
-        .at(region)
-        .since(before.of(kind).at(region))
-        .count;
-    match cut {
-        Some(last) if last.kind == kind && last.region == region => made.saturating_sub(1),
-        _ => made,
-    }
-}
-
-/// Whether an operation belongs to a commit.
-fn in_commit(operation: Operation) -> bool {
-    operation.region == Region::Ledger || operation.region == Region::Control
-}
-
-/// Whether an operation programs the header of a slot that is taken, and not a gate.
-fn is_header(operation: Operation) -> bool {
-    operation.region == Region::Head && operation.kind == Kind::Program && operation.bytes != 1
-}
-
-/// How many of the headers were finished.
-fn finished_headers(headers: u64, cut: Option<Operation>) -> u64 {
-    match cut {
-        Some(last) => {
-            if is_header(last) {
-                return headers.saturating_sub(1);
-            }
-            headers
-        }
-        None => headers,
-    }
-}
-
-/// How many takes were finished, the last commit of which may be interrupted.
-fn finished_takes(headers: u64, cut: Option<Operation>) -> u64 {
-    match cut {
-        Some(last) => {
-            if is_header(last) || in_commit(last) {
-                return 0;
-            }
-            headers
-        }
-        None => headers,
-    }
-}
 
 /// The image, its version and its complete pages, as the last `have` line reports them.
 fn pages_told(reports: &[Report]) -> Option<(u8, u32, u8)> {
@@ -108,73 +21,6 @@ fn pages_told(reports: &[Report]) -> Option<(u8, u32, u8)> {
         }
     }
     told
-}
-
-impl MoteCost {
-    /// Whether exactly one operation was made, which put a packet into a page.
-    fn is_put(&self, after: &Tally) -> bool {
-        if after.operations != self.tally.operations.saturating_add(1) {
-            return false;
-        }
-        match after.last {
-            Some(last) => last.kind == Kind::Program && last.region == Region::Page,
-            None => false,
-        }
-    }
-
-    /// Counts the operations of an event, the last of which was interrupted if there is a cut.
-    fn all_work(&mut self, kind: usize, after: &Tally, cut: Option<Operation>) -> Work {
-        let before = self.tally;
-        add(
-            &mut self.flash_events,
-            kind,
-            after.operations.saturating_sub(before.operations),
-        );
-        let control = finished(Kind::Program, Region::Control, &before, after, cut);
-        let ledger = finished(Kind::Program, Region::Ledger, &before, after, cut);
-        let copies = finished(Kind::Program, Region::Program, &before, after, cut);
-        let puts = finished(Kind::Program, Region::Page, &before, after, cut);
-        let begun = finished(Kind::Erase, Region::Page, &before, after, None);
-        let heads = finished(Kind::Program, Region::Head, &before, after, cut);
-        let headers = after.headers.saturating_sub(before.headers);
-        self.note_commits(control, ledger, cut);
-        self.takes = self.takes.saturating_add(finished_takes(headers, cut));
-        self.begun = self.begun.saturating_add(begun);
-        self.copied = self.copied.saturating_add(copies / COPY_PROGRAMS);
-        if 0 < begun {
-            self.filled = 0;
-        }
-        self.tally = *after;
-        Work {
-            puts,
-            sealed: heads.saturating_sub(finished_headers(headers, cut)),
-            copied: 0 < copies,
-            any: true,
-        }
-    }
-
-    /// Counts commits by the finished programs of control sectors and of the ledger.
-    fn note_commits(&mut self, control: u64, ledger: u64, cut: Option<Operation>) {
-        let mut commits = control / COMMIT_PROGRAMS;
-        if let Some(last) = cut {
-            self.note_cut(last);
-            if last.region == Region::Ledger {
-                commits = commits.saturating_sub(1);
-            }
-            if in_commit(last) {
-                self.torn = self.torn.saturating_add(1);
-            }
-        }
-        self.commits = self.commits.saturating_add(commits);
-        self.handovers = self.handovers.saturating_add(ledger);
-    }
-
-    fn note_cut(&mut self, last: Operation) {
-        match last.kind {
-            Kind::Program => add_one(&mut self.cut_programs, last.region as usize),
-            Kind::Erase => add_one(&mut self.cut_erases, last.region as usize),
-        }
-    }
 }
 
 impl Costs {
@@ -196,11 +42,26 @@ impl Costs {
         let Some((image, version, pages)) = pages_told(reports) else {
             return gates;
         };
-        let before = match self.moments.kept(mote, image) {
+        let before = match self.pages.kept(mote, image) {
             Some(have) if !taken && have.version == version => u64::from(have.done),
             _ => 0,
         };
         u64::from(pages).saturating_sub(before).max(gates)
+    }
+
+    /// Counts an event of this kind at the mote with this index, if it made just one operation, which put a packet into a page.
+    /// Answers whether it did.
+    #[inline(always)]
+    pub fn note_one_put(&mut self, index: usize, kind: usize, after: &Tally) -> bool {
+        if self.operations.len() <= index
+            || after.operations.wrapping_sub(self.operations[index]) != 1
+            || after.programs.page.count == self.page_programs[index]
+        {
+            return false;
+        }
+        self.note_made(index, after);
+        add_one(&mut self.hot[index].flash_events, kind);
+        true
     }
 
     /// Counts the work of an event on a mote's chip.
@@ -213,21 +74,10 @@ impl Costs {
         reports: &[Report],
     ) -> Work {
         let index = usize::from(mote);
-        if self.motes.len() <= index {
+        if self.operations.len() <= index || self.operations[index] == after.operations {
             return NO_WORK;
         }
-        if self.motes[index].tally.operations == after.operations {
-            return NO_WORK;
-        }
-        if index < self.operations.len() {
-            self.operations[index] = after.operations;
-        }
-        let cost = &mut self.motes[index];
-        if !off && cost.is_put(after) {
-            cost.tally.operations = after.operations;
-            cost.tally.programs.page = after.programs.page;
-            cost.tally.last = after.last;
-            add_one(&mut cost.flash_events, kind);
+        if !off && self.note_one_put(index, kind, after) {
             return ONE_PUT;
         }
         self.note_all_work(mote, kind, after, off, reports)
@@ -244,15 +94,27 @@ impl Costs {
         reports: &[Report],
     ) -> Work {
         let index = usize::from(mote);
+        self.settle_puts(index, kind, after);
         if self.motes.len() <= index {
             return NO_WORK;
         }
         let cut = if off { after.last } else { None };
         let taken = self.motes[index].tally.headers < after.headers;
-        let mut work = self.motes[index].all_work(kind, after, cut);
+        let mut work = self.motes[index].all_work(after, cut);
         work.sealed = self.sealed(mote, taken, work.sealed, cut, reports);
         let cost = &mut self.motes[index];
         cost.sealed = cost.sealed.saturating_add(work.sealed);
         work
+    }
+
+    /// Takes over the operations that were noted since those of the tally, and counts those of an event of this kind.
+    fn settle_puts(&mut self, index: usize, kind: usize, after: &Tally) {
+        if self.motes.len() <= index || self.operations.len() <= index {
+            return;
+        }
+        let made = after.operations.saturating_sub(self.operations[index]);
+        add(&mut self.hot[index].flash_events, kind, made);
+        self.motes[index].tally.programs.page.count = self.page_programs[index];
+        self.note_made(index, after);
     }
 }

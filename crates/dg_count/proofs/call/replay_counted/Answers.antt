@@ -1,7 +1,9 @@
+use Rattle.std.specs.Prelude.{map}
+use Rattle.dg_meter.specs.Meters.{metered_device}
 use Rattle.dg_count.proofs.RunLemmas.{replay_seen}
 use Rattle.dg_count.proofs.call.replay_counted.Goals as goal
 
 pub returns-clause-counted : goal.returns-clause-counted
 returns-clause-counted g c seen rest table =
-    let s = c.replay.ensures.seen rest table seen in
-    (s.0, replay_seen c.replay.new.watcher s.0.came s.0.limits.few_events s.1)
+    let s = c.replay-status.ensures.seen rest table seen in
+    (s.0, replay_seen c.settle.new.self (map (metered_device g.N.Nor.device) c.args.boards.now.items) s.0.came s.0.limits.few_events (c.settle.ensures _ _ _ s.1))

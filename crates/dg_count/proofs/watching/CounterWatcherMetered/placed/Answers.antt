@@ -1,8 +1,8 @@
+use Rattle.std.proofs.Common.{sym, ap, ◌∙◌, not}
 use Rattle.dg_count.proofs.RunLemmas.{seen_placed}
 use Rattle.dg_count.proofs.watching.CounterWatcherMetered.placed.Goals as goal
 
-pub returns-then-is_none : goal.returns-then-is_none
-returns-then-is_none g c stores is seen = seen_placed stores is c.begin.ensures seen
-
-pub returns-else-is_none : goal.returns-else-is_none
-returns-else-is_none g c stores is seen = seen_placed stores is (λ has. has) seen
+pub returns : goal.returns
+returns g c initial stores is seen =
+    seen_placed stores is c.place.ensures.places (λ formatted. c.is_none.ensures ∙ ap not (sym c.place.ensures.mounted ∙ formatted))
+    (λ mounted. c.is_none.ensures ∙ ap not (sym c.place.ensures.mounted ∙ mounted)) seen

@@ -1,0 +1,7 @@
+mod MotesLemmas
+mod MapLemmas
+mod ChangeLemmas
+mod MomentLemmas
+mod BeginLemmas
+mod TellingLemmas
+mod NewestLemmas

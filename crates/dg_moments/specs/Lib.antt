@@ -1,0 +1,4 @@
+pub mod Looking
+pub mod Moments
+pub mod Wholes
+pub mod Telling
