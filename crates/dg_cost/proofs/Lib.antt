@@ -1,3 +1,5 @@
 mod FrameLemmas
+mod LookingLemmas
+mod MomentRowLemmas
 mod RowLemmas
 mod RunLemmas

@@ -1,6 +1,6 @@
 -- Rows of a table, and the tables of motes.
 use Rattle.std.proofs.Common.{◌≡◌, ℕ, zero, suc, List, [], ◌∷◌, ◌++◌, length, refl, sym, ap, subst, ◌∙◌, append_assoc, append-nil, arith, ◌-◌, cond}
-use Rattle.std.proofs.Common.{Option, Some, None}
+use Rattle.std.proofs.Common.{Some, None}
 use Rattle.std.specs.Prelude.{slice_get, codes}
 use Rattle.dg_events.specs.Uptimes.{up_until}
 use Rattle.dg_events.specs.declared.uptime.Uptime.{Uptime}

@@ -1,8 +1,7 @@
 -- The rows of a counter are those of the run that it counted.
-use Rattle.std.proofs.Common.{◌≡◌, ◌≢◌, ℕ, ◌+◌, ◌*◌, ◌-◌, ◌%◌, ◌^◌, ◌<◌, ◌≤◌, ◌==◌, Bool, true, false, cond, List, [], ◌∷◌, ◌++◌, length, map, get_or, set, refl, sym, ap, subst, ◌∙◌, arith}
+use Rattle.std.proofs.Common.{◌≡◌, ℕ, ◌+◌, ◌*◌, ◌-◌, ◌%◌, ◌^◌, ◌<◌, ◌≤◌, ◌==◌, Bool, true, false, cond, List, [], ◌∷◌, length, get_or, set, refl, sym, ap, subst, ◌∙◌, arith}
 use Rattle.std.proofs.Common.{zero, suc, Option, Some, None, inl, inr}
-use Rattle.std.specs.Prelude.{slice_get, slice_index, slice_index_or}
-use Rattle.std.specs.List.{range_with_len}
+use Rattle.std.specs.Prelude.{slice_get, slice_index}
 use Rattle.std.proofs.lemmas.Nat.{mod-mul-add}
 use Rattle.std.proofs.lemmas.Bool.{cases_lt, both_ways}
 use Rattle.std.proofs.lemmas.List.Sums.{sum_by-cons}
@@ -10,10 +9,9 @@ use Rattle.std.proofs.lemmas.List.{get_or_past}
 use Rattle.std.proofs.lemmas.List.FromFn.{fill_by_all, get_or-map-range_with_len, length-map-range_with_len}
 use Rattle.dg_object.specs.Object.{Row}
 use Rattle.dg_script.specs.Script.{Script}
-use Rattle.dg_rules.specs.Sizes.{most_motes, most_events}
+use Rattle.dg_rules.specs.Sizes.{most_events}
 use Rattle.dg_rules.specs.Runs.{Played}
-use Rattle.dg_replay.specs.Items.{beginning_of}
-use Rattle.dg_replay.specs.Items.{is_event}
+use Rattle.dg_replay.specs.Items.{beginning_of, is_event}
 use Rattle.dg_replay.specs.Shown.{stores_in, events_played}
 use Rattle.dg_script.specs.Items.{Item, Declares, Applies}
 use Rattle.dg_nor.specs.Device.{Device}
@@ -22,25 +20,25 @@ use Rattle.dg_replay.specs.Done.{ReplayDone}
 use Rattle.dg_replay.specs.Replayed.{Progress, Replayed}
 use Rattle.dg_base.specs.declared.answers.Status.{Status}
 use Rattle.dg_events.specs.Told.{Happened}
-use Rattle.dg_events.specs.Uptimes.{ms_before, ms_of, on_ms_of, ends_on, never_on, IsUptime}
+use Rattle.dg_events.specs.Uptimes.{ms_before, ms_of, on_ms_of, never_on, IsUptime}
 use Rattle.dg_events.specs.declared.uptime.Uptime.{Uptime}
-use Rattle.dg_cost.specs.TimeRows.{rows_of_times, rows_of_power, rows_of_moment, time_rows, moment_rows}
+use Rattle.dg_cost.specs.TimeRows.{rows_of_times, rows_of_power, rows_of_moment, time_rows}
 use Rattle.dg_events.specs.Counts.{count_all, count_at, has_kind, is_refused, is_cut, is_start_by_power, is_start_by_order, is_cut_start_by_power, is_start_of}
-use Rattle.dg_events.specs.Counters.{as_u64, told_count, AreCounts, CountsAre, AllCounted, HasCounted, no_counts}
+use Rattle.dg_events.specs.Counters.{AreCounts, CountsAre, no_counts}
 use Rattle.dg_events.specs.Noted.{up, up_at}
 use Rattle.dg_events.specs.declared.event_counts.EventCounts.{EventCounts}
 use Rattle.dg_events.specs.declared.event_counter.EventCounter.{EventCounter}
 use Rattle.dg_cost_text.specs.Table.{table_of_rows}
 use Rattle.dg_cost_text.specs.declared.rows.Counted.{Counted}
-use Rattle.dg_cost_text.specs.declared.rows.Rows.{Rows}
-use Rattle.dg_count.specs.Ended.{with_ended, counts_at}
+use Rattle.dg_count.specs.Ended.{with_ended}
 use Rattle.dg_events.specs.FrameCounters.{AreFrames, no_frames}
 use Rattle.dg_cost.proofs.FrameLemmas.{mote_frames}
+use Rattle.dg_cost.proofs.MomentRowLemmas.{newest_are}
 use Rattle.dg_count.specs.Runs.{CountedRun, CountedReplay}
 use Rattle.dg_count.specs.declared.costs.Costs.{Costs}
 use Rattle.dg_count.specs.declared.counter.Counter.{Counter}
 use Rattle.dg_count.specs.declared.place.EventPlace.{EventPlace}
-use Rattle.dg_cost.specs.EventRows.{HasRows, HasCounts, HasEvents, rows_of_events, rows_of_starts, rows_of_images, counts_of, and_ended, event_rows, start_rows, image_rows}
+use Rattle.dg_cost.specs.EventRows.{HasRows, HasCounts, HasEvents, rows_of_events, rows_of_starts, rows_of_images, counts_of, and_ended}
 use Rattle.dg_cost.specs.Counting.{IsCountOf}
 use Rattle.dg_cost.specs.Costs.{CountsRun, CountsReplay, IsText, CostWrote, Rehearsed, with_report}
 use Rattle.dg_cost.specs.declared.call.Form.{Form}
@@ -164,8 +162,8 @@ declared_ms (p ∷ ps) =
 -- ---- the counts of a replay
 
 pub run_rows : {table : List Row} {script : Script} (c : Counter) (ran : Status) (came : Progress table script) (counted : Counted)
-    → c.frames.lost ≡ false → CountedReplay c came → IsCountOf c ran counted → CountsRun ran came counted
-run_rows c ran came counted kept replay is = record {
+    → c.frames.lost ≡ false → c.wholes.lost ≡ false → CountedReplay c came → IsCountOf c ran counted → CountsRun ran came counted
+run_rows c ran came counted kept whole replay is = record {
   motes = is.motes ∙ replay.motes;
   ended = is.ended;
   whole = is.whole;
@@ -189,6 +187,17 @@ run_rows c ran came counted kept replay is = record {
       omega (arith, get_within counted.motes.items m rows there, is.motes, replay.few, are.many) in
       mote_frames m (events_played came.played) c.frames.sent.items c.frames.motes (get_or c.frames.motes m no_frames) (table_of_rows rows) replay.times.few are
       (are.each m (get_or c.frames.motes m no_frames) (get_there c.frames.motes m no_frames lt)) (is.frames m rows there);
+  moments = record {
+    wholes = c.wholes;
+    kept = whole;
+    noted = replay.wholes;
+    motes = is.wholes;
+    newest = is.all_kept.newest;
+    newest_are =
+        newest_are c is.all_kept.newest (stores_in (beginning_of came.ground came.done).world) (events_played came.played) is.all_kept.answers replay.motes
+        (replay.wholes whole);
+    all = is.all_kept.has;
+  };
 }
 
 -- what a text shows of counts
@@ -207,9 +216,9 @@ SeenReplay c ran a b = (table : List Row) → (x : Replayed table ran a b) × Co
 
 -- what a counter costs besides does not matter
 cost_shows : (asked : Form) (c : Counter) (costs : Costs) (ran : Status) (a b : Outside) (report text : List ℕ)
-    → c.frames.lost ≡ false → SeenReplay c ran a b → IsText asked (IsCountOf (record c { costs = costs }) ran) report text
+    → c.frames.lost ≡ false → c.wholes.lost ≡ false → SeenReplay c ran a b → IsText asked (IsCountOf (record c { costs = costs }) ran) report text
     → IsText asked (CountsReplay ran a b) report text
-cost_shows asked c costs ran a b report text kept seen is =
+cost_shows asked c costs ran a b report text kept whole seen is =
     text_shows asked (IsCountOf (record c { costs = costs }) ran) (CountsReplay ran a b) report text shows is
   where
     same : (table : List Row) → CountedReplay (record c { costs = costs }) (seen table).0.came
@@ -224,16 +233,16 @@ cost_shows asked c costs ran a b report text kept seen is =
 
     shows : (counted : Counted) → IsCountOf (record c { costs = costs }) ran counted → CountsReplay ran a b counted
     shows counted has table =
-        ((seen table).0, run_rows (record c { costs = costs }) ran (seen table).0.came counted kept (same table) has)
+        ((seen table).0, run_rows (record c { costs = costs }) ran (seen table).0.came counted kept whole (same table) has)
 
 -- A report was kept from none on, and the text was made of it and of the counts.
 pub rehearsed : (asked : Form) (c : Counter) (costs : Costs) (ran status : Status) (a b : Outside) (kept report shown text : List ℕ)
-    (faults : ℕ) (before after : List Device) → c.frames.lost ≡ false → kept ≡ [] → shown ≡ report
+    (faults : ℕ) (before after : List Device) → c.frames.lost ≡ false → c.wholes.lost ≡ false → kept ≡ [] → shown ≡ report
     → ReplayDone ran (with_report kept 0 before a) (with_report report faults after b)
     → SeenReplay c ran (with_report kept 0 before a) (with_report report faults after b)
     → IsText asked (IsCountOf (record c { costs = costs }) ran) shown text → CostWrote ran status text a b
     → Rehearsed asked status a b
-rehearsed asked c costs ran status a b kept report shown text faults before after valid none same done seen is wrote = record {
+rehearsed asked c costs ran status a b kept report shown text faults before after valid whole none same done seen is wrote = record {
   ran = ran;
   report = report;
   faults = faults;
@@ -241,7 +250,7 @@ rehearsed asked c costs ran status a b kept report shown text faults before afte
   after = after;
   replayed = subst (λ (xs : List ℕ). ReplayDone ran (with_report xs 0 before a) end) none done;
   text = text;
-  is_text = cost_shows asked c costs ran (with_report [] 0 before a) end report text valid
+  is_text = cost_shows asked c costs ran (with_report [] 0 before a) end report text valid whole
       (subst (λ (xs : List ℕ). SeenReplay c ran (with_report xs 0 before a) end) none seen)
       (subst (λ (xs : List ℕ). IsText asked (IsCountOf (record c { costs = costs }) ran) xs text) same is);
   wrote = wrote;

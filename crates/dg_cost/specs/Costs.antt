@@ -1,12 +1,15 @@
 -- All that is promised of a replay that writes what it costs (docs/COMMANDS.md, "What a script costs").
-use Rattle.std.specs.Prelude.{◌≡◌, ◌≢◌, ◌⊎◌, ℕ, List, [], Some, None, Option, length, slice_get}
+use Rattle.std.specs.Prelude.{◌≡◌, ◌≢◌, false, ◌⊎◌, ℕ, ◌+◌, map, List, [], Some, None, Option, length, slice_get}
+use Rattle.std.specs.List.{range_with_len}
 use Rattle.dg_words.specs.Counts.{Rose}
 use Rattle.dg_base.specs.Outside.{Puts, PutsPrefix}
 use Rattle.dg_base.specs.declared.answers.Status.{Status}
 use Rattle.dg_base.specs.declared.answers.Status.TheVariants.{Memory, WriteFault, NoImage}
 use Rattle.dg_nor.specs.Device.{Device}
 use Rattle.dg_object.specs.Object.{Row}
+use Rattle.dg_rules.specs.Runs.{Played}
 use Rattle.dg_script.specs.Script.{Script}
+use Rattle.dg_volume.specs.Store.{Store}
 use Rattle.dg_outside.specs.Outside.{Outside}
 use Rattle.dg_replay.specs.Done.{ReplayDone}
 use Rattle.dg_replay.specs.Items.{beginning_of}
@@ -14,15 +17,31 @@ use Rattle.dg_replay.specs.Shown.{stores_in, events_played}
 use Rattle.dg_replay.specs.Replayed.{Progress, Replayed}
 use Rattle.dg_cost_text.specs.Csv.{csv}
 use Rattle.dg_cost_text.specs.Table.{table_of_rows}
+use Rattle.dg_cost_text.specs.declared.moment.Moment.{Moment}
 use Rattle.dg_cost_text.specs.Timed.{IsStampedReport}
 use Rattle.dg_cost_text.specs.declared.rows.Counted.{Counted}
 use Rattle.dg_cost_text.specs.declared.rows.Rows.{Rows}
+use Rattle.dg_moments.specs.Moments.{loaded_images, newest_at}
+use Rattle.dg_moments.specs.Wholes.{HasWholes}
+use Rattle.dg_moments.specs.declared.wholes.Wholes.{Wholes}
 use Rattle.dg_count.specs.declared.place.EventPlace.{EventPlace}
 use Rattle.dg_cost.specs.EventRows.{HasRows, HasEvents}
 use Rattle.dg_cost.specs.TimeRows.{time_rows, moment_rows}
 use Rattle.dg_cost.specs.FrameRows.{HasFrameRows}
+use Rattle.dg_cost.specs.MomentRows.{HasWholeRows, HasAllRows}
 use Rattle.dg_cost.specs.declared.call.Form.{Form}
 use Rattle.dg_cost.specs.declared.call.Form.TheVariants.{Table, Csv, Json, Timed}
+
+-- The rows of moments are exactly those of these events, of each mote and of all, where the chips began with these stores.
+pub record HasMomentRows (stores : List Store) (events : List Played) (counted : Counted) : Type 0 where
+  pub wholes : Wholes
+  pub kept : wholes.lost ≡ false
+  pub noted : HasWholes wholes stores events
+  pub motes : (m : ℕ) (rows : Rows) → slice_get counted.motes.items m ≡ Some rows
+      → HasWholeRows m wholes.moments (table_of_rows rows)
+  pub newest : List (Option Moment)
+  pub newest_are : newest ≡ map (λ (i : ℕ). newest_at stores events (i + 1)) (range_with_len 0 loaded_images)
+  pub all : HasAllRows wholes.all newest (table_of_rows counted.all)
 
 -- The counts of a replay that ended with this status: a table for each mote whose board was used, with the rows of the events
 -- that were played there. Where the replay ended since an event found no image to start, that event counts by its kind.
@@ -38,6 +57,7 @@ pub record CountsRun {table : List Row} {script : Script} (ran : Status) (came :
       → HasEvents ended m came.played (table_of_rows rows)
   pub frames : (m : ℕ) (rows : Rows) → slice_get counted.motes.items m ≡ Some rows
       → HasFrameRows m (events_played came.played) (table_of_rows rows)
+  pub moments : HasMomentRows (stores_in (beginning_of came.ground came.done).world) (events_played came.played) counted
 
 -- whichever table the boards are checked against, these are the counts of that replay
 abbrev pub CountsReplay : (ran : Status) → (a b : Outside) → Counted → Type 0

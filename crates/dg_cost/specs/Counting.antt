@@ -12,6 +12,7 @@ use Rattle.dg_events.specs.Uptimes.{never_on}
 use Rattle.dg_cost.specs.EventRows.{HasCounts, HasRows}
 use Rattle.dg_events.specs.FrameCounters.{no_frames}
 use Rattle.dg_cost.specs.FrameRows.{HasFrameCounts}
+use Rattle.dg_cost.specs.MomentRows.{HasWholeRows, TellsAll}
 use Rattle.dg_cost.specs.TimeRows.{rows_of_power, rows_of_moment}
 
 -- A table for each mote whose board is used, with the rows of what the counter counted there. A run that ended with this status
@@ -27,3 +28,6 @@ pub record IsCountOf (c : Counter) (ran : Status) (counted : Counted) : Type 0 w
       → HasCounts (counts_at ended c.events m) (table_of_rows rows)
   pub frames : (m : ℕ) (rows : Rows) → slice_get counted.motes.items m ≡ Some rows
       → HasFrameCounts (slice_index_or c.frames.motes m no_frames) (table_of_rows rows)
+  pub wholes : (m : ℕ) (rows : Rows) → slice_get counted.motes.items m ≡ Some rows
+      → HasWholeRows m c.wholes.moments (table_of_rows rows)
+  pub all_kept : TellsAll c (table_of_rows counted.all)

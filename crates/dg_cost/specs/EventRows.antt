@@ -2,6 +2,7 @@
 use Rattle.std.specs.Prelude.{◌≡◌, ℕ, ◌+◌, ◌==◌, if◌then◌else◌, List, [], ◌∷◌, ◌++◌, codes, map, slice_index, slice_set, Bool}
 use Rattle.std.specs.Prelude.{Option, Some, None}
 use Rattle.std.specs.List.{range_with_len}
+use Rattle.dg_volume.specs.Sizes.{images}
 use Rattle.dg_rules.specs.Runs.{Played}
 use Rattle.dg_events.specs.Kinds.{event_names, cause_names}
 use Rattle.dg_events.specs.Told.{Happened}
@@ -65,7 +66,7 @@ start_rows mote played =
     (count_at mote is_cut_start_by_power played)
 
 abbrev pub image_rows : (mote : ℕ) → List Played → List (List ℕ × ℕ)
-image_rows mote played = rows_of_images (counts_of mote is_start_of 7 played)
+image_rows mote played = rows_of_images (counts_of mote is_start_of images played)
 
 -- The table of a mote has the rows of the events that were played there, and of the one that ended the run, if there is one.
 pub record HasEvents (ended : Option EventPlace) (mote : ℕ) (played : List Played) (table : List (List ℕ × ℕ)) : Type 0 where

@@ -7,13 +7,13 @@ ghost use Rattle.dg_cost.specs.Counting.{IsCountOf};
 ghost use Rattle.dg_cost_text.specs.Csv.{csv};
 ghost use Rattle.dg_cost_text.specs.declared.rows.Counted.{Counted};
 
+use crate::looking::{look, look_again};
 use crate::mote_rows::{counted, ended_event};
 use dg_base::{Sink, Source, Status, WriteFailed};
 use dg_cost_text::{Model, csv_text, json_text, table_text, timed_text};
-use dg_count::{Costs, Counter, Given, replay_counted};
+use dg_count::{Counter, replay_counted};
 use dg_meter::Metered;
 use dg_nor::Nor;
-use dg_volume::Volume;
 use std::alloc::{AllocError, Global};
 
 /// What is asked for.
@@ -58,43 +58,6 @@ impl Sink for KeptReport {
             Err(_) => {
                 self.faults = self.faults.saturating_add(1);
                 Err(WriteFailed)
-            }
-        }
-    }
-}
-
-/// What the boards keep before the run.
-fn look<N: Nor>(
-    alloc: Global,
-    boards: &mut Vec<Metered<N>>,
-) -> Result<Vec<Option<Given>>, AllocError> {
-    let mut given = Vec::new(alloc);
-    for index in 0..boards.len() {
-        if index < boards.len() {
-            given.push(look_at(&mut boards[index]))?;
-        }
-    }
-    Ok(given)
-}
-
-/// What a board keeps before the run, if it is a volume. Its meter then knows how many pages each slot has.
-fn look_at<N: Nor>(board: &mut Metered<N>) -> Option<Given> {
-    let Ok(volume) = Volume::mount(board) else {
-        return None;
-    };
-    board.look();
-    Some(Given {
-        room: volume.room(),
-        kept: volume.kept_images(),
-    })
-}
-
-/// Reads the room that is left on each chip at the end.
-fn look_again<N: Nor>(costs: &mut Costs, boards: &mut Vec<Metered<N>>) {
-    for index in 0..boards.len() {
-        if index < boards.len() && index < costs.motes.len() {
-            if let Ok(volume) = Volume::mount(&mut boards[index]) {
-                costs.motes[index].room_end = Some(u64::from(volume.room()));
             }
         }
     }

@@ -1,15 +1,13 @@
 //! The rows of the frames of a mote.
-ghost use Rattle.std.specs.Prelude.{◌≡◌, ◌++◌, IfOk, OnOk};
+ghost use Rattle.std.specs.Prelude.{◌≡◌, ◌++◌, [], IfOk, OnOk};
+ghost use Rattle.dg_cost_text.specs.Moments.{AddsNoMoment};
 ghost use Rattle.dg_cost_text.specs.Table.{table_of_rows};
 ghost use Rattle.dg_cost.specs.FrameRows.{counted_rows, refused_shares, HasFrameCounts};
 
 use dg_cost_text::{Part, Rows};
-use dg_count::{
-    ANSWERS, FRAMES, MOTES, MoteCost, PACKET, PUT, SentBy, TRACED, TRACED_PUT, USED, narrow,
-    share_of,
-};
-use dg_events::{FAULTS, FrameCounts, HEARD, SENT_KINDS};
+use dg_events::{FAULTS, FrameCounts, SENT_KINDS};
 use dg_meter::Share;
+use dg_mote_cost::{ANSWERS, FRAMES, HotCost, MOTES, MoteCost, PACKET, narrow, share_of};
 use std::alloc::{AllocError, Global};
 
 /// So many frames of each kind, with their bytes.
@@ -32,45 +30,80 @@ fn push_refused(rows: &mut Rows, shares: &[Share; 5]) -> Result<(), AllocError>
 }
 
 /// The rows of the frames that a mote sent and no mote heard.
-fn unheard_rows(alloc: Global, by: &SentBy) -> Result<Rows, AllocError> {
+fn unheard_rows(alloc: Global, hot: &HotCost, frames: &FrameCounts) -> Result<Rows, AllocError>
+    ensures { IfOk result (λ rows. AddsNoMoment [] (table_of_rows rows)) }
+{
     let mut rows = Rows::new(alloc);
     for kind in 0..SENT_KINDS {
         let parts = [Part::Text("unheard."), Part::Text(FRAMES[kind])];
-        rows.push_ended(&parts, ".count", by.without(kind, HEARD), true)?;
+        let unheard = frames.sent[kind].saturating_sub(hot.heard[kind]);
+        rows.push_ended(&parts, ".count", unheard, true)?;
     }
     Ok(rows)
 }
 
 /// The rows of the neighbours that a mote heard.
-fn push_neighbours(rows: &mut Rows, cost: &MoteCost) -> Result<(), AllocError> {
+fn push_neighbours(rows: &mut Rows, hot: &HotCost) -> Result<(), AllocError>
+    ensures { OnOk result (AddsNoMoment (table_of_rows rows.old) (table_of_rows rows.new)) }
+{
     for by in 0..MOTES {
-        let share = cost.heard_from(by);
+        let share = hot.heard_from(by);
         let from = [Part::Text("from."), Part::Number(u32::from(narrow(by)))];
         rows.push_ended(&from, ".count", share.count, false)?;
         rows.push_ended(&from, ".bytes", share.bytes, false)?;
-        rows.push_ended(&from, ".first", cost.first[by], false)?;
+        rows.push_ended(&from, ".first", hot.first[by], false)?;
     }
     Ok(())
 }
 
+/// The sum over all kinds.
+fn all_of(counts: &[u64; SENT_KINDS]) -> u64 {
+    let mut all: u64 = 0;
+    for kind in 0..SENT_KINDS {
+        all = all.saturating_add(counts[kind]);
+    }
+    all
+}
+
 /// The outcomes of the packets that a mote sent, and the frames that a trace brings.
-fn push_packets(rows: &mut Rows, cost: &MoteCost, by: &SentBy) -> Result<(), AllocError> {
-    let vain = share_of(PACKET, by.without(PACKET, PUT));
+fn push_packets(
+    rows: &mut Rows,
+    cost: &MoteCost,
+    hot: &HotCost,
+    frames: &FrameCounts,
+) -> Result<(), AllocError>
+    ensures { OnOk result (AddsNoMoment (table_of_rows rows.old) (table_of_rows rows.new)) }
+{
+    let packets = frames.sent[PACKET];
+    let vain = share_of(PACKET, packets.saturating_sub(hot.put));
     rows.share("packets.", "vain", vain)?;
-    rows.sum("packets.idle.count", by.without(PACKET, USED))?;
-    rows.sum("packets.put", cost.put)?;
+    let idle = packets.saturating_sub(hot.used);
+    rows.sum("packets.idle.count", idle)?;
+    rows.sum("packets.put", hot.puts)?;
     rows.share("traced.", "heard", cost.traced)?;
-    rows.sum("traced.unheard.count", by.all_without(HEARD + TRACED))?;
-    rows.sum("traced.vain.count", by.without(PACKET, PUT + TRACED_PUT))
+    let unheard = all_of(&frames.sent).saturating_sub(all_of(&hot.heard));
+    rows.sum("traced.unheard.count", unheard.saturating_sub(hot.traced))?;
+    let vain = packets
+        .saturating_sub(hot.put)
+        .saturating_sub(hot.traced_put);
+    rows.sum("traced.vain.count", vain)?;
+    Ok(())
 }
 
 /// The rows of what a mote did with the frames that it heard, and of what became of the packets that it sent.
-fn answer_rows(alloc: Global, cost: &MoteCost, by: &SentBy) -> Result<Rows, AllocError> {
+fn answer_rows(
+    alloc: Global,
+    cost: &MoteCost,
+    hot: &HotCost,
+    frames: &FrameCounts,
+) -> Result<Rows, AllocError>
+    ensures { IfOk result (λ rows. AddsNoMoment [] (table_of_rows rows)) }
+{
     let mut rows = Rows::new(alloc);
     rows.shares("refused.outside.", &FAULTS, &cost.refused_outside)?;
-    rows.each("answer.", &ANSWERS, &cost.answers, "")?;
-    push_neighbours(&mut rows, cost)?;
-    push_packets(&mut rows, cost, by)?;
+    rows.each("answer.", &ANSWERS, &hot.answers, "")?;
+    push_neighbours(&mut rows, hot)?;
+    push_packets(&mut rows, cost, hot, frames)?;
     Ok(rows)
 }
 
@@ -78,17 +111,18 @@ fn answer_rows(alloc: Global, cost: &MoteCost, by: &SentBy) -> Result<Rows, Allo
 pub fn frame_rows(
     alloc: Global,
     cost: &MoteCost,
-    by: &SentBy,
+    hot: &HotCost,
     frames: &FrameCounts,
 ) -> Result<Rows, AllocError>
-    ensures { IfOk result (λ rows. HasFrameCounts frames.now (table_of_rows rows)) }
+    ensures frames { IfOk result (λ rows. HasFrameCounts frames.now (table_of_rows rows)) }
+    ensures moments { IfOk result (λ rows. AddsNoMoment [] (table_of_rows rows)) }
 {
     let mut rows = Rows::new(alloc);
     push_kinds(&mut rows, "sent.", &frames.sent)?;
-    rows.append(unheard_rows(alloc, by)?)?;
+    rows.append(unheard_rows(alloc, hot, frames)?)?;
     push_kinds(&mut rows, "heard.", &frames.heard)?;
     rows.shares("outside.", &FRAMES, &cost.outside)?;
     push_refused(&mut rows, &frames.refused)?;
-    rows.append(answer_rows(alloc, cost, by)?)?;
+    rows.append(answer_rows(alloc, cost, hot, frames)?)?;
     Ok(rows)
 }

@@ -8,6 +8,7 @@
 mod call;
 mod flash_rows;
 mod frame_rows;
+mod looking;
 mod moment_rows;
 mod mote_rows;
 

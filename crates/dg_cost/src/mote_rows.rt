@@ -1,5 +1,7 @@
 //! What was counted of motes, and of all, as rows.
-ghost use Rattle.std.specs.Prelude.{◌≡◌, ◌≢◌, ◌++◌, ℕ, IfOk, OnOk, if◌then◌else◌, length, slice_get, slice_index_or};
+ghost use Rattle.std.specs.Prelude.{◌≡◌, ◌≢◌, ◌++◌, [], true, false, ℕ, IfOk, OnOk};
+ghost use Rattle.std.specs.Prelude.{if◌then◌else◌, length, slice_get, slice_index_or};
+ghost use Rattle.dg_cost_text.specs.Moments.{is_moment_key, summed_table, AddsNoMoment};
 ghost use Rattle.dg_cost_text.specs.Table.{table_of_rows};
 ghost use Rattle.dg_cost_text.specs.declared.rows.Rows.{Rows};
 ghost use Rattle.dg_count.specs.Ended.{counts_at};
@@ -8,16 +10,19 @@ ghost use Rattle.dg_events.specs.Uptimes.{never_on};
 ghost use Rattle.dg_cost.specs.EventRows.{rows_of_events, rows_of_starts, rows_of_images, HasCounts, HasRows};
 ghost use Rattle.dg_events.specs.FrameCounters.{no_frames};
 ghost use Rattle.dg_cost.specs.FrameRows.{HasFrameCounts};
+ghost use Rattle.dg_cost.specs.MomentRows.{HasMoments, SumsNoMoment, TellsAll};
 ghost use Rattle.dg_cost.specs.TimeRows.{rows_of_power, rows_of_moment};
 
 use crate::flash_rows::{push_chip, with_flash};
 use crate::frame_rows::frame_rows;
 use crate::moment_rows::{push_all_moments, push_wholes};
 use dg_base::Status;
-use dg_cost_text::{Counted, Moment, Rows, total_of};
-use dg_count::{Counter, EventPlace, MoteCost, SentBy, Wholes, narrow, sent_by_each, share_of};
+use dg_cost_text::{Counted, Moment, Row, Rows, total_of};
+use dg_count::{Counter, EventPlace};
 use dg_events::{CAUSES, EVENTS, EventCounts, FrameCounts, SENT_KINDS, Uptime, Uptimes};
 use dg_meter::Share;
+use dg_moments::Wholes;
+use dg_mote_cost::{HotCost, MoteCost, share_of};
 use std::alloc::{AllocError, Global};
 
 /// 1 for a mote that is off.
@@ -73,7 +78,9 @@ fn push_images(rows: &mut Rows, events: &EventCounts) -> Result<(), AllocError>
 }
 
 /// The rows of starts that did not run an image.
-fn failed_rows(alloc: Global, cost: &MoteCost) -> Result<Rows, AllocError> {
+fn failed_rows(alloc: Global, cost: &MoteCost) -> Result<Rows, AllocError>
+    ensures { IfOk result (λ rows. AddsNoMoment [] (table_of_rows rows)) }
+{
     let mut rows = Rows::new(alloc);
     rows.sum("starts.cut.order", cost.cut_restarts)?;
     rows.sum("starts.none", cost.no_image)?;
@@ -83,13 +90,16 @@ fn failed_rows(alloc: Global, cost: &MoteCost) -> Result<Rows, AllocError> {
 /// The rows after those of starts.
 fn chip_rows(
     alloc: Global,
-    mote: u8,
+    mote: usize,
     cost: &MoteCost,
+    hot: &HotCost,
     wholes: &Wholes,
-) -> Result<Rows, AllocError> {
+) -> Result<Rows, AllocError>
+    ensures { IfOk result (λ rows. HasMoments mote wholes.now.moments rows) }
+{
     let mut rows = Rows::new(alloc);
     rows.sum("starts.copied", cost.starts_copied)?;
-    push_chip(&mut rows, cost)?;
+    push_chip(&mut rows, cost, hot)?;
     push_wholes(&mut rows, mote, wholes)?;
     Ok(rows)
 }
@@ -97,9 +107,9 @@ fn chip_rows(
 /// All rows of a mote.
 fn mote_rows(
     alloc: Global,
-    mote: u8,
+    mote: usize,
     cost: &MoteCost,
-    by: &SentBy,
+    hot: &HotCost,
     events: &EventCounts,
     frames: &FrameCounts,
     uptime: &Uptime,
@@ -109,31 +119,46 @@ fn mote_rows(
     ensures counts { IfOk result (λ rows. HasCounts events.now (table_of_rows rows)) }
     ensures power { IfOk result (λ rows. HasRows (rows_of_power uptime.now ms) (table_of_rows rows)) }
     ensures frames { IfOk result (λ rows. HasFrameCounts frames.now (table_of_rows rows)) }
+    ensures moments { IfOk result (λ rows. HasMoments mote wholes.now.moments rows) }
 {
     let mut rows = Rows::new(alloc);
     push_power(&mut rows, uptime, ms)?;
     push_events(&mut rows, events)?;
-    rows.append(frame_rows(alloc, cost, by, frames)?)?;
+    rows.append(frame_rows(alloc, cost, hot, frames)?)?;
     push_starts(&mut rows, events)?;
     rows.append(failed_rows(alloc, cost)?)?;
     push_images(&mut rows, events)?;
-    rows.append(chip_rows(alloc, mote, cost, wholes)?)?;
+    rows.append(chip_rows(alloc, mote, cost, hot, wholes)?)?;
     Ok(rows)
 }
 
 /// The sums of rows of motes.
-fn push_sums(all: &mut Rows, motes: &[Rows], first: &Rows) -> Result<(), AllocError> {
+fn push_sums(all: &mut Rows, motes: &[Rows], first: &Rows) -> Result<(), AllocError>
+    ensures { OnOk result (AddsNoMoment [] (summed_table first.now)
+        → AddsNoMoment (table_of_rows all.old) (table_of_rows all.new)) }
+{
     for index in 0..first.rows.len() {
-        let row = &first.rows[index];
-        if row.summed {
-            all.push_as(row, total_of(motes, index))?;
-        }
+        push_sum(all, motes, &first.rows[index], index)?;
     }
     Ok(())
 }
 
+/// The sum of this row, which stands at this index, if it is one of those that are summed.
+fn push_sum(all: &mut Rows, motes: &[Rows], row: &Row, index: usize) -> Result<(), AllocError>
+    ensures { OnOk result ((row.now.summed ≡ true → is_moment_key row.now.key.items ≡ false)
+        → AddsNoMoment (table_of_rows all.old) (table_of_rows all.new)) }
+{
+    if !row.summed {
+        return Ok(());
+    }
+    all.push_as(row, total_of(motes, index))?;
+    Ok(())
+}
+
 /// The frames and the operations of all motes.
-fn push_totals(all: &mut Rows, counter: &Counter) -> Result<(), AllocError> {
+fn push_totals(all: &mut Rows, counter: &Counter) -> Result<(), AllocError>
+    ensures { OnOk result (AddsNoMoment (table_of_rows all.old) (table_of_rows all.new)) }
+{
     let mut sent = Share::none();
     let mut heard = Share::none();
     for frames in &counter.frames.motes {
@@ -152,17 +177,30 @@ fn push_totals(all: &mut Rows, counter: &Counter) -> Result<(), AllocError> {
     all.own("heard.bytes", heard.bytes)?;
     all.own("flash.run.count", flash.0)?;
     all.own("flash.run.program.bytes", flash.1)?;
-    all.own("flash.run.erase.count", flash.2)
+    all.own("flash.run.erase.count", flash.2)?;
+    Ok(())
+}
+
+/// The rows of all motes that are counts, if there is a mote.
+fn push_counts(all: &mut Rows, motes: &[Rows], counter: &Counter) -> Result<(), AllocError>
+    ensures { OnOk result (SumsNoMoment motes.now → AddsNoMoment (table_of_rows all.old) (table_of_rows all.new)) }
+{
+    let Some(first) = motes.first() else {
+        return Ok(());
+    };
+    push_sums(all, motes, first)?;
+    push_totals(all, counter)?;
+    Ok(())
 }
 
 /// The rows of all motes before those of the last event.
-fn summed_rows(alloc: Global, motes: &[Rows], counter: &Counter) -> Result<Rows, AllocError> {
+fn summed_rows(alloc: Global, motes: &[Rows], counter: &Counter) -> Result<Rows, AllocError>
+    ensures { IfOk result (λ all. SumsNoMoment motes.now
+        → TellsAll counter.now (table_of_rows all)) }
+{
     let mut all = Rows::new(alloc);
-    if let Some(first) = motes.first() {
-        push_sums(&mut all, motes, first)?;
-        push_totals(&mut all, counter)?;
-        push_all_moments(&mut all, &counter.costs.moments)?;
-    }
+    push_counts(&mut all, motes, counter)?;
+    push_all_moments(&mut all, counter)?;
     all.own("run.motes", u64::from(counter.costs.count))?;
     Ok(all)
 }
@@ -185,7 +223,9 @@ fn all_rows(
     last: Moment,
     status: Status,
 ) -> Result<Rows, AllocError>
-    ensures { IfOk result (λ all. HasRows (rows_of_moment last.event last.ms) (table_of_rows all)) }
+    ensures last { IfOk result (λ all. HasRows (rows_of_moment last.event last.ms) (table_of_rows all)) }
+    ensures moments { IfOk result (λ all. SumsNoMoment motes.now
+        → TellsAll counter.now (table_of_rows all)) }
 {
     let mut all = summed_rows(alloc, motes, counter)?;
     push_moment(&mut all, last)?;
@@ -209,7 +249,6 @@ fn rows_of_motes(
     counter: &Counter,
     ended: Option<EventPlace>,
     times: &Uptimes,
-    by: &[SentBy],
 ) -> Result<Vec<Rows>, AllocError>
     ensures length { IfOk result (λ motes. length motes.items ≡ counter.now.placed) }
     ensures each { IfOk result (λ motes. (m : ℕ) (rows : Rows) → slice_get motes.items m ≡ Some rows
@@ -218,28 +257,19 @@ fn rows_of_motes(
         → HasRows (rows_of_power (slice_index_or times.now.motes m never_on) times.now.ms) (table_of_rows rows)) }
     ensures frames { IfOk result (λ motes. (m : ℕ) (rows : Rows) → slice_get motes.items m ≡ Some rows
         → HasFrameCounts (slice_index_or counter.now.frames.motes m no_frames) (table_of_rows rows)) }
+    ensures moments { IfOk result (λ motes. (m : ℕ) (rows : Rows) → slice_get motes.items m ≡ Some rows
+        → HasMoments m counter.now.wholes.moments rows) }
 {
     let mut motes = Vec::new(alloc);
     for mote in 0..usize::from(counter.placed) {
         let cost = counter.costs.of(mote);
         let events = counter.events_at(ended, mote);
-        let sent = match by.get(mote) {
-            Some(sent) => *sent,
-            None => SentBy::none(),
-        };
+        let hot = counter.costs.hot_of(mote);
         let frames = counter.frames.at(mote);
         let uptime = times.at(mote);
         let wholes = &counter.wholes;
         let rows = mote_rows(
-            alloc,
-            narrow(mote),
-            &cost,
-            &sent,
-            &events,
-            &frames,
-            &uptime,
-            times.ms,
-            wholes,
+            alloc, mote, &cost, &hot, &events, &frames, &uptime, times.ms, wholes,
         )?;
         motes.push(rows)?;
     }
@@ -250,10 +280,9 @@ fn rows_of_motes(
 pub fn counted(alloc: Global, counter: &Counter, status: Status) -> Result<Counted, AllocError>
     ensures { IfOk result (λ counted. IsCountOf counter.now status counted) }
 {
-    let by = sent_by_each(alloc, &counter.frames, usize::from(counter.placed))?;
     let ended = ended_event(counter, status);
     let times = counter.times_until(ended);
-    let motes = rows_of_motes(alloc, counter, ended, &times, &by)?;
+    let motes = rows_of_motes(alloc, counter, ended, &times)?;
     let all = all_rows(alloc, &motes, counter, counter.last(ended), status)?;
     Ok(Counted {
         motes,

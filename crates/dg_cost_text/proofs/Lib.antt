@@ -1,3 +1,4 @@
 pub mod TableLemmas
+pub mod MomentLemmas
 mod TimedLemmas
 mod CsvLemmas

@@ -1,17 +1,27 @@
 //! What was counted, as rows of a key and a value.
-ghost use Rattle.std.specs.Prelude.{◌≡◌, ◌∷◌, ◌++◌, [], map, min, length, OnOk, IfOk};
-ghost use Rattle.dg_cost_text.specs.Moments.{what_key, whole_key, rows_at};
+ghost use Rattle.std.specs.Prelude.{◌≡◌, ◌∷◌, ◌++◌, [], if◌then◌else◌, map, min, length, OnOk, IfOk};
+ghost use Rattle.dg_cost_text.specs.Moments.{what_key, whole_key, rows_at, summed_table};
 ghost use Rattle.dg_cost_text.specs.Table.{part_text, key_of, table_of_rows, named_rows, share_rows, shared_rows};
 
 use crate::moment::{Moment, What};
-use dg_base::push_u32;
 use dg_meter::Share;
+use itoa::Buffer;
+use smallvec::SmallVec;
 use std::alloc::{AllocError, Global};
+
+/// How long a key is that takes no memory of its own: few are longer.
+const KEY_ROOM: usize = 32;
+
+/// How many rows there is room for at first: a mote that keeps a few images has fewer.
+const ROWS_ROOM: usize = 256;
+
+/// A key.
+pub type Key = SmallVec<u8, KEY_ROOM>;
 
 /// A key with its value.
 #[derive(Drop)]
 pub struct Row {
-    pub key: Vec<u8>,
+    pub key: Key,
     pub value: u64,
     /// Whether the sum over the motes is a row of `all`.
     pub summed: bool,
@@ -49,9 +59,14 @@ impl Rows {
     pub fn new(alloc: Global) -> Rows
         ensures { table_of_rows result ≡ [] }
     {
+        let mut rows = Vec::new(alloc);
+        match rows.reserve(ROWS_ROOM) {
+            Ok(()) => {}
+            Err(AllocError) => {}
+        }
         Rows {
             alloc,
-            rows: Vec::new(alloc),
+            rows,
             moments: Vec::new(alloc),
         }
     }
@@ -71,7 +86,9 @@ impl Rows {
         value: u64,
         summed: bool,
     ) -> Result<(), AllocError>
-        ensures { OnOk result (table_of_rows self.new ≡ table_of_rows self.old ++ (key_of parts.now end.now, value) ∷ []) }
+        ensures rows { OnOk result (table_of_rows self.new ≡ table_of_rows self.old ++ (key_of parts.now end.now, value) ∷ []) }
+        ensures sums { OnOk result (summed_table self.new
+            ≡ summed_table self.old ++ (if summed then (key_of parts.now end.now, value) ∷ [] else [])) }
     {
         let key = key_text(self.alloc, parts, end)?;
         self.rows.push(Row { key, value, summed })?;
@@ -82,8 +99,7 @@ impl Rows {
     pub fn push_as(&mut self, row: &Row, value: u64) -> Result<(), AllocError>
         ensures { OnOk result (table_of_rows self.new ≡ table_of_rows self.old ++ (row.now.key.items, value) ∷ []) }
     {
-        let mut key = Vec::new(self.alloc);
-        key.extend_from_slice(&row.key)?;
+        let key = SmallVec::from_slice(self.alloc, &row.key)?;
         self.rows.push(Row {
             key,
             value,
@@ -108,7 +124,8 @@ impl Rows {
 
     /// Appends these rows, in their order.
     pub fn append(&mut self, mut rows: Rows) -> Result<(), AllocError>
-        ensures { OnOk result (table_of_rows self.new ≡ table_of_rows self.old ++ table_of_rows rows) }
+        ensures rows { OnOk result (table_of_rows self.new ≡ table_of_rows self.old ++ table_of_rows rows) }
+        ensures sums { OnOk result (summed_table self.new ≡ summed_table self.old ++ summed_table rows) }
     {
         self.rows.append(&mut rows.rows)?;
         self.moments.append(&mut rows.moments)?;
@@ -171,7 +188,8 @@ impl Rows {
 
     /// The two rows of a moment.
     pub fn moment(&mut self, what: What, at: Moment) -> Result<(), AllocError>
-        ensures { OnOk result (table_of_rows self.new ≡ table_of_rows self.old ++ rows_at (what_key what) at) }
+        ensures rows { OnOk result (table_of_rows self.new ≡ table_of_rows self.old ++ rows_at (what_key what) at) }
+        ensures sums { OnOk result (summed_table self.new ≡ summed_table self.old) }
     {
         self.what_rows(what, at)?;
         self.moments.push((what, at))?;
@@ -179,7 +197,8 @@ impl Rows {
     }
 
     fn what_rows(&mut self, what: What, at: Moment) -> Result<(), AllocError>
-        ensures { OnOk result (table_of_rows self.new ≡ table_of_rows self.old ++ rows_at (what_key what) at) }
+        ensures rows { OnOk result (table_of_rows self.new ≡ table_of_rows self.old ++ rows_at (what_key what) at) }
+        ensures sums { OnOk result (summed_table self.new ≡ summed_table self.old) }
     {
         match what {
             What::Whole {
@@ -204,8 +223,9 @@ impl Rows {
     }
 
     fn whole(&mut self, image: u8, version: u32, times: u32, at: Moment) -> Result<(), AllocError>
-        ensures { OnOk result (table_of_rows self.new
+        ensures rows { OnOk result (table_of_rows self.new
             ≡ table_of_rows self.old ++ rows_at (whole_key image version times) at) }
+        ensures sums { OnOk result (summed_table self.new ≡ summed_table self.old) }
     {
         let begin = Part::Text("whole.");
         let image = Part::Number(u32::from(image));
@@ -219,7 +239,8 @@ impl Rows {
     }
 
     fn moment_rows(&mut self, parts: &[Part<'_>], at: Moment) -> Result<(), AllocError>
-        ensures { OnOk result (table_of_rows self.new ≡ table_of_rows self.old ++ rows_at (key_of parts.now []) at) }
+        ensures rows { OnOk result (table_of_rows self.new ≡ table_of_rows self.old ++ rows_at (key_of parts.now []) at) }
+        ensures sums { OnOk result (summed_table self.new ≡ summed_table self.old) }
     {
         self.push_ended(parts, ".event", at.event, false)?;
         self.push_ended(parts, ".ms", at.ms, false)?;
@@ -254,24 +275,26 @@ impl Rows {
 }
 
 /// Appends a part of a key.
-fn push_part(key: &mut Vec<u8>, part: Part<'_>) -> Result<(), AllocError>
+fn push_part(key: &mut Key, part: Part<'_>) -> Result<(), AllocError>
     ensures { OnOk result (key.new.items ≡ key.old.items ++ part_text part.entry) }
 {
     match part {
         Part::Text(text) => key.extend_from_slice(text.as_bytes()),
-        Part::Number(number) => push_u32(key, number),
+        Part::Number(number) => key.extend_from_slice(Buffer::new().format(number).as_bytes()),
     }
 }
 
 /// The key of these parts and this end.
-fn key_text(alloc: Global, parts: &[Part<'_>], end: &str) -> Result<Vec<u8>, AllocError>
+fn key_text(alloc: Global, parts: &[Part<'_>], end: &str) -> Result<Key, AllocError>
     ensures { IfOk result (λ key. key.items ≡ key_of parts.now end.now) }
 {
-    let mut key = Vec::new(alloc);
+    let mut key = SmallVec::new(alloc);
     for part in parts {
         push_part(&mut key, *part)?;
     }
-    key.extend_from_slice(end.as_bytes())?;
+    if !end.is_empty() {
+        key.extend_from_slice(end.as_bytes())?;
+    }
     Ok(key)
 }
 

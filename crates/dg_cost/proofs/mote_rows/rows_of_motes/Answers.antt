@@ -1,4 +1,4 @@
-use Rattle.std.proofs.Common.{◌≡◌, ℕ, ◌+◌, List, [], ◌∷◌, ◌++◌, length, sym, ap, subst, ◌∙◌, arith, length-append}
+use Rattle.std.proofs.Common.{◌≡◌, ℕ, ◌+◌, List, [], ◌∷◌, ◌++◌, length, ap, subst, ◌∙◌, length-append}
 use Rattle.std.specs.Prelude.{slice_index_or}
 use Rattle.dg_events.specs.Uptimes.{never_on}
 use Rattle.dg_events.specs.declared.event_counts.EventCounts.{EventCounts}
@@ -11,6 +11,7 @@ use Rattle.dg_cost.specs.TimeRows.{rows_of_power}
 use Rattle.dg_events.specs.FrameCounters.{no_frames}
 use Rattle.dg_events.specs.declared.frame_counter.FrameCounts.{FrameCounts}
 use Rattle.dg_cost.specs.FrameRows.{HasFrameCounts}
+use Rattle.dg_cost.specs.MomentRows.{HasMoments}
 use Rattle.dg_cost.proofs.RowLemmas.{each_pushed}
 use Rattle.dg_cost.proofs.mote_rows.rows_of_motes.Goals as goal
 
@@ -35,4 +36,6 @@ loop-mote-preserved c =
           motes c.push.new.self.items rows i items before.0 before.2 power,
       each_pushed (λ (m : ℕ) (r : Rows). HasFrameCounts (slice_index_or c.args.counter.now.frames.motes m no_frames) (table_of_rows r)) motes
           c.push.new.self.items rows i items before.0 before.3 frames,
+      each_pushed (λ (m : ℕ) (r : Rows). HasMoments m c.args.counter.now.wholes.moments r) motes c.push.new.self.items rows i items before.0 before.4
+          c.in_ok-rows.ensures.moments,
     )
