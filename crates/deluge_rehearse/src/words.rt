@@ -1,7 +1,10 @@
 //! What the words after the program's name ask for.
 ghost use Rattle.std.specs.Prelude.{◌≤◌};
+ghost use Rattle.dg_base.specs.Sizes.{most_motes};
+ghost use Rattle.dg_object.specs.Sizes.{fewest_pages, most_pages};
 
-use dg_base::{Bytes, is_name, parse_u32};
+use dg_base::{Bytes, MOST_MOTES, is_name, parse_u32};
+use dg_object::{FEWEST_PAGES, MOST_PAGES};
 use std::alloc::AllocError;
 use std::env::Args;
 
@@ -38,9 +41,9 @@ pub(crate) struct Trial {
     pub(crate) pages: u8,
     pub(crate) seed: u32,
     ghost some: { 2 ≤ motes },
-    ghost few: { motes ≤ 16 },
-    ghost some_pages: { 2 ≤ pages },
-    ghost few_pages: { pages ≤ 65 },
+    ghost few: { motes ≤ most_motes },
+    ghost some_pages: { fewest_pages ≤ pages },
+    ghost few_pages: { pages ≤ most_pages },
 }
 
 /// An option that has a value.
@@ -253,7 +256,10 @@ impl TrialReading {
         let (Some(motes), Some(pages), Some(seed)) = (motes, pages, seed) else {
             return Asked::Other;
         };
-        if motes < 2 || motes > 16 || pages < 2 || pages > 65 {
+        if motes < 2 || MOST_MOTES < motes {
+            return Asked::Other;
+        }
+        if pages < FEWEST_PAGES || MOST_PAGES < pages {
             return Asked::Other;
         }
         Asked::Trial(Trial { motes, pages, seed })

@@ -7,15 +7,19 @@ ghost use Rattle.dg_inspect_text.specs.Json.{image_json, images_json};
 use crate::values::{crc_value, hex_value, name_value};
 use dg_bits::PageBits;
 use dg_inspect::{BytesSeen, ChainSeen, ImageSeen, PagesSeen};
+use dg_object::MOST_PAGES;
 use serde_json::{Map, Value, put};
 use std::alloc::{AllocError, Global};
 
+/// The pages of an image, at most.
+pub(crate) const PAGES: usize = MOST_PAGES as usize;
+
 /// The numbers of the pages in a set.
-fn pages_value(alloc: Global, pages: &PageBits<65>) -> Result<Value, AllocError>
+fn pages_value(alloc: Global, pages: &PageBits<{ PAGES }>) -> Result<Value, AllocError>
     ensures { IfOk result (λ v. view v ≡ pages_json pages.now) }
 {
     let mut numbers = Vec::new(alloc);
-    for page in 0..65 {
+    for page in 0..MOST_PAGES {
         if pages.has(page) {
             numbers.push(Value::from(page))?;
         }

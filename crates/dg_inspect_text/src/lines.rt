@@ -1,4 +1,5 @@
 //! What chips show, as lines for a terminal, of at most 100 columns each but for the name of a file.
+use crate::images::PAGES;
 use crate::report::{Moment, Report};
 use crate::texts::{condition_text, order_text, reason_text};
 use dg_bits::PageBits;
@@ -121,7 +122,7 @@ fn start_line(alloc: Global, next: &NextStart) -> Result<String, AllocError> {
 }
 
 /// How sound pages are.
-fn sound_text(alloc: Global, unsound: &PageBits<65>) -> Result<String, AllocError> {
+fn sound_text(alloc: Global, unsound: &PageBits<{ PAGES }>) -> Result<String, AllocError> {
     match unsound.first() {
         None => String::from_str(alloc, "sound"),
         Some(page) => format!(in alloc;
