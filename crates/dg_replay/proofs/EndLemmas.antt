@@ -170,13 +170,13 @@ stopped_ends {table} {S = S} {G = G} NoImage result script over input at_end num
       near = tt;
       limits = f.limits;
       stood = f.stood;
-      boards = f.there.2;
+      boards = f.there.2.0;
       left = f.there.4.1;
       caused = (f.there.1, f.there.2);
     } in
     subst (λ (s : Status). ScriptReplayed table s script (ending_from (length initial) over script) (bytes_taken input at_end) (span initial now before after S G) (failures reads worse)) (sym same) made
 stopped_ends {table} NoImage result script over input at_end number initial now before mid after failed later reads worse spread widen near settled f (inr (same, cut, rose)) =
-    cut_at_end result script over input at_end number initial now before mid after later reads worse widen near f.came no_image_line (inr (f.there.1, lacks_next f.came.last f.came.left initial now f.there.2, refl)) f.reported f.limits f.stood (inr (inr (inr (f.there.1, f.there.2)))) f.there.4.1 f.there.3 f.there.4.0 same cut rose
+    cut_at_end result script over input at_end number initial now before mid after later reads worse widen near f.came no_image_line (inr (f.there.1, lacks_next f.came.last f.came.left initial now f.there.2.0, refl)) f.reported f.limits f.stood (inr (inr (inr (f.there.1, f.there.2.0)))) f.there.4.1 f.there.3 f.there.4.0 same cut rose
 stopped_ends {table} {S = S} {G = G} NotAVolume result script over input at_end number initial now before mid after failed later reads worse spread widen near settled f (inl (same, put)) =
     let made : ScriptReplayed table status.NotAVolume script (ending_from (length initial) over script) (bytes_taken input at_end) (span initial now before after S G) (failures reads worse) = record {
       came = f.came;

@@ -21,8 +21,8 @@ use Rattle.dg_world.specs.Boards.{BoardStopped}
 use Rattle.dg_replay.specs.Boards.{EventNext, BoardsStand}
 use Rattle.dg_replay.specs.Ending.{Ending, Ends, NoBoards, TooManyEvents, FaultAt, Over, events_in, by_fault, by_boards, ending_from, ending_status, used}
 use Rattle.dg_replay.specs.inner.Words.{by_events}
-use Rattle.dg_replay.specs.Replayed.{Progress, played_text, AtTooMany, IsWholeReport, Wrote, BoardsLeft, IsCaused, IsSettled, DoneIsWhole, RestsOnTaken, EndsNear, ReadsNear, NoVolumeThere, NoImageThere}
-use Rattle.dg_replay.specs.Replaying.{HasFew, ReadyToEnd, EndsWith, ScriptReplayed}
+use Rattle.dg_replay.specs.Replayed.{Progress, played_text, AtTooMany, IsWholeReport, Wrote, BoardsLeft, IsCaused, IsSettled, DoneIsWhole, RestsOnTaken, EndsNear, ReadsNear, NoVolumeThere}
+use Rattle.dg_replay.specs.Replaying.{HasFew, ReadyToEnd, EndsWith, ScriptReplayed, NoImageShown}
 use Rattle.dg_base.specs.declared.events.Step.{Step}
 use Rattle.dg_script.specs.declared.line.Line.{Line}
 use Rattle.dg_script.specs.declared.line.Line.TheVariants.{Nothing, Motes, Golden, Boards as BoardsLine, Link, Narrow, Image, Cut, Happens as EventLine, Round, Sweeps}
@@ -85,7 +85,7 @@ ended {table} {S = S} {G = G} result script e piece input at_end initial now bef
       stood = r.stood;
       boards = boards_of e r.came initial now r.boards;
       left = r.left;
-      caused = caused_by e reads worse (BoardStopped (motes_in r.came.done) initial now) (NoVolumeThere r.came initial now) ((UsesBoards r.came.done) × NoImageThere r.came initial now);
+      caused = caused_by e reads worse (BoardStopped (motes_in r.came.done) initial now) (NoVolumeThere r.came initial now) ((UsesBoards r.came.done) × NoImageShown (span initial now before after S G) r.came);
     } in
     subst (λ (s : Status). ScriptReplayed table s script e (bytes_taken input at_end) (span initial now before after S G) (failures reads worse)) (sym done.0) made
 ended {table} {S = S} {G = G} result script e piece input at_end initial now before mid after failed reads worse spread r settled whole near (inr (inl cut)) =

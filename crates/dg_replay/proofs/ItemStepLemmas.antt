@@ -34,7 +34,7 @@ use Rattle.dg_world.specs.Boards.{WorldStands}
 use Rattle.dg_replay.specs.Boards.{ItemStops, LacksImage, EventNext}
 use Rattle.dg_replay.specs.Playing.{KeepsMotes, ItemsRun, ItemsPlayed, ItemsBegun, ItemsPlayedAs, IsOneTooMany, StopsInItem}
 use Rattle.dg_replay.specs.declared.stop.Stop.{Stop}
-use Rattle.dg_replay.specs.Shown.{Saw, LeadTo, IsApplied, IsEnding, StaysSeen, Shows}
+use Rattle.dg_replay.specs.Shown.{Saw, EndShown, LeadTo, IsApplied, IsEnding, StaysSeen, Shows}
 use Rattle.dg_replay.specs.Stages.{Told, boards_told}
 use Rattle.dg_replay.specs.declared.stop.Stop.TheVariants.{Memory, BadInput, WriteFault, FlashFault, TooMany, NoBoard, NoImage, NotAVolume}
 use Rattle.dg_replay.proofs.ItemLemmas.{items_run_none, items_run_one, items_run_join, played_one, declared_same, step_counts}
@@ -176,9 +176,9 @@ ended_stands w x v initial old new may is e b =
           e.boards.others m (other_than m (mote_of x.event) (length w.sites) within far) ∙ b.others m far;
     }
 
-pub ended_in : (w : World) (x : Step) (reported : Bool) (v : KeptWorld) (initial old new : List Device) (text : List ℕ) (F G : Saw) → MayStep v old x → IsWorld v old w → RunEnded w x old new → Shows F G w [] → WorldStands w initial old
-    → ItemsBegun w (Applies x reported ∷ []) F G (λ u left t. LacksImage u left initial new × (text ≡ text ++ t))
-ended_in w x reported v initial old new text F G may is e shown stands = record {
+pub ended_in : (w : World) (x : Step) (reported : Bool) (v : KeptWorld) (initial old new : List Device) (text : List ℕ) (F G : Saw) → MayStep v old x → IsWorld v old w → RunEnded w x old new → Shows F G w [] → G.ended x.event → WorldStands w initial old
+    → ItemsBegun w (Applies x reported ∷ []) F G (λ u left t. (LacksImage u left initial new × EndShown G left) × (text ≡ text ++ t))
+ended_in w x reported v initial old new text F G may is e shown last stands = record {
   begun = [];
   left = Applies x reported ∷ [];
   parts = refl;
@@ -187,17 +187,17 @@ ended_in w x reported v initial old new text F G may is e shown stands = record 
   runs = items_run_none w is.few_events;
   shown = shown;
   there = (
-    record { next = record { step = x; reported = reported; more = []; is = refl }; after = e.world; ends = e.ends; boards = ended_stands w x v initial old new may is e stands },
+    (record { next = record { step = x; reported = reported; more = []; is = refl }; after = e.world; ends = e.ends; boards = ended_stands w x v initial old new may is e stands }, last),
     sym (append-nil text),
   );
 }
 
 -- which a watcher was shown as the end
 pub ended_shown : (w : World) (event : Event) (cut : Option PowerCut) (v : KeptWorld) (initial old new : List Device) (F G : Saw) → MayStep v old (step_of event cut) → IsWorld v old w → WorldStands w initial old → w.events < most_events → RunEnded w (step_of event cut) old new
-    → ((stores : List Store) (events : List Played) (u : World) → LeadTo stores events u → IsEnding u event new → F stores events → G stores events) → Shows F G w []
+    → ((stores : List Store) (events : List Played) (u : World) → LeadTo stores events u → IsEnding u event new → F.events stores events → G.events stores events) → Shows F G w []
 ended_shown w event cut v initial old new F G may is stands few e ended = λ stores events lead f.
     let awake : AreAwake (length e.world.sites) new = standing_awake e.world initial new (ended_stands w (step_of event cut) v initial old new may is e stands) in
-    subst (λ (es : List Played). G stores es) (sym (append-nil events)) (ended stores events w lead (record { few = few; cut = cut; after = e.world; ends = e.ends; stand = e.stood; awake = awake }) f)
+    subst (λ (es : List Played). G.events stores es) (sym (append-nil events)) (ended stores events w lead (record { few = few; cut = cut; after = e.world; ends = e.ends; stand = e.stood; awake = awake }) f)
 
 -- it was applied, and this is the outcome of reporting it
 pub told_as : (r : Result (Unit {0}) Stop) (w : World) (x : Step) (reported : Bool) (v v2 : KeptWorld) (initial old new : List Device) (before reports : List Report) (report_before told : Told) → before ≡ [] → MayStep v old x → (a : Applied w x reported (deployed v old before) (deployed v2 new reports)) → Shows report_before.saw told.saw w (applied_one a reports ∷ [])
@@ -210,7 +210,7 @@ told_as (Err stop) w x reported v v2 initial old new before reports report_befor
 -- which a watcher was shown
 pub applied_shown : (w : World) (event : Event) (cut : Option PowerCut) (reported : Bool) (v v2 : KeptWorld) (initial old new : List Device) (before reports shown : List Report) (F G : Saw) → before ≡ [] → shown ≡ reports → MayStep v old (step_of event cut) → IsWorld v old w → WorldStands w initial old
     → (done : ApplyDone (Ok tt) (step_of event cut) reported (deployed v old before) (deployed v2 new reports)) → (a : Applied w (step_of event cut) reported (deployed v old before) (deployed v2 new reports))
-    → ((stores : List Store) (events : List Played) (p : Played) → LeadTo stores events p.before → IsApplied p event reported (deployed v2 new shown) → F stores events → G stores (events ++ p ∷ [])) → Shows F G w (applied_one a reports ∷ [])
+    → ((stores : List Store) (events : List Played) (p : Played) → LeadTo stores events p.before → IsApplied p event reported (deployed v2 new shown) → F.events stores events → G.events stores (events ++ p ∷ [])) → Shows F G w (applied_one a reports ∷ [])
 applied_shown w event cut reported v v2 initial old new before reports shown F G none same may is stands done a applied = λ stores events lead f.
     let told : reports ≡ filter (is_reported reported) a.reports = a.report_now ∙ ap (λ (rs : List Report). rs ++ filter (is_reported reported) a.reports) none in
     let there : IsApplied (applied_one a reports) event reported (deployed v2 new reports) = record {
@@ -292,6 +292,11 @@ lacks_more : (left more : List Item) (w : World) (initial now : List Device) →
 unfolding next_more
 lacks_more left more w initial now h = record { next = next_more left more h.next; after = h.after; ends = h.ends; boards = h.boards }
 
+shown_more : (saw : Saw) (left more : List Item) → EndShown saw left → EndShown saw (left ++ more)
+shown_more saw [] more h = absurd h
+shown_more saw (Declares row ∷ left) more h = absurd h
+shown_more saw (Applies x reported ∷ left) more h = h
+
 stops_more : (left more : List Item) (w : World) (board : ℕ) (image : List ℕ) (old new : List Device) → ItemStops left (Some w) board image old new → ItemStops (left ++ more) (Some w) board image old new
 stops_more [] more w board image old new h = absurd h
 stops_more (Declares row ∷ left) more w board image old new h = absurd h
@@ -337,8 +342,8 @@ stopped_later FlashFault w xs ys more whole k k2 initial mid now t0 t1 t2 a b is
     begun_later w a.world xs ys more whole a.text t0.saw t1.saw t2.saw (λ v left text. StopsInItem v left initial now × (t2.text ≡ t1.text ++ text)) (λ v left text. StopsInItem v left initial now × (t2.text ≡ t0.text ++ text)) a.runs a.shown b is
     (λ v left text h. (record { stopped = h.0.stopped; there = stops_more left more v h.0.stopped.board h.0.stopped.after.image initial now h.0.there }, h.1 ∙ ap (λ (t : List ℕ). t ++ text) a.report_now ∙ append_assoc t0.text a.text text))
 stopped_later NoImage w xs ys more whole k k2 initial mid now t0 t1 t2 a b is =
-    begun_later w a.world xs ys more whole a.text t0.saw t1.saw t2.saw (λ v left text. LacksImage v left initial now × (t2.text ≡ t1.text ++ text)) (λ v left text. LacksImage v left initial now × (t2.text ≡ t0.text ++ text)) a.runs a.shown b is
-    (λ v left text h. (lacks_more left more v initial now h.0, h.1 ∙ ap (λ (t : List ℕ). t ++ text) a.report_now ∙ append_assoc t0.text a.text text))
+    begun_later w a.world xs ys more whole a.text t0.saw t1.saw t2.saw (λ v left text. (LacksImage v left initial now × EndShown t2.saw left) × (t2.text ≡ t1.text ++ text)) (λ v left text. (LacksImage v left initial now × EndShown t2.saw left) × (t2.text ≡ t0.text ++ text)) a.runs a.shown b is
+    (λ v left text h. ((lacks_more left more v initial now h.0.0, shown_more t2.saw left more h.0.1), h.1 ∙ ap (λ (t : List ℕ). t ++ text) a.report_now ∙ append_assoc t0.text a.text text))
 stopped_later NotAVolume w xs ys more whole k k2 initial mid now t0 t1 t2 a b is = absurd b
 stopped_later (NoBoard motes boards) w xs ys more whole k k2 initial mid now t0 t1 t2 a b is = absurd b
 stopped_later (BadInput n fault) w xs ys more whole k k2 initial mid now t0 t1 t2 a b is = absurd b

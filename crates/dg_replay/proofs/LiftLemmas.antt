@@ -9,7 +9,7 @@ use Rattle.dg_object.specs.Object.{Row}
 use Rattle.dg_rules.specs.World.{World}
 use Rattle.dg_script.specs.Sizes.{most_used_bytes}
 use Rattle.dg_rules.specs.Runs.{Played}
-use Rattle.dg_script.specs.Items.{Item, Applies}
+use Rattle.dg_script.specs.Items.{Item, Declares, Applies}
 use Rattle.dg_script.specs.Places.{first_place}
 use Rattle.dg_script.specs.Script.{Script, script_from}
 use Rattle.dg_script.specs.declared.fault.LineFault.{LineFault}
@@ -23,7 +23,7 @@ use Rattle.dg_replay.specs.Replayed.{Progress, Untouched, item_played, played_te
 use Rattle.dg_replay.specs.Untouched.{IsElsewhere, FormatsNone}
 use Rattle.dg_replay.specs.Replaying.{PlayedUpTo, HasFew, ReportedBefore, IsLeft, StopsThere, StopsInTaken}
 use Rattle.dg_replay.specs.declared.stop.Stop.{Stop}
-use Rattle.dg_replay.specs.Shown.{Saw}
+use Rattle.dg_replay.specs.Shown.{Saw, EndShown}
 use Rattle.dg_replay.specs.Stages.{span}
 use Rattle.dg_replay.specs.inner.Words.{bytes_taken}
 use Rattle.dg_replay.specs.declared.stop.Stop.TheVariants.{Memory, BadInput, WriteFault, FlashFault, TooMany, NoBoard, NoImage, NotAVolume}
@@ -82,6 +82,15 @@ lacks_rest done (line ∷ rest) more begun left w old new e h = h
 lacks_on : (last : Option World) (done rest more : List Line) (begun left : List Item) (old new : List Device) → next_items done rest ≡ begun ++ left → InSome last (λ w. LacksImage w left old new) → InSome last (λ w. LacksImage w (left_of done rest more left) old new)
 lacks_on None done rest more begun left old new e h = h
 lacks_on (Some w) done rest more begun left old new e h = lacks_rest done rest more begun left w old new e h
+
+shown_next : (saw : Saw) (left : List Item) → EndShown saw left → EventNext left
+shown_next saw [] h = absurd h
+shown_next saw (Declares row ∷ left) h = absurd h
+shown_next saw (Applies step reported ∷ left) h = record { step = step; reported = reported; more = left; is = refl }
+
+shown_on : (saw : Saw) (done rest more : List Line) (begun left : List Item) → next_items done rest ≡ begun ++ left → EndShown saw left → EndShown saw (left_of done rest more left)
+shown_on saw done [] more begun left e h = no_items begun left (shown_next saw left h) e
+shown_on saw done (line ∷ rest) more begun left e h = h
 
 left_there : {table : List Row} {first script : Script} (b : BeginsAs first script) (c : Progress table first) (initial now : List Device) → BoardsLeft status.WriteFault c initial now → BoardsLeft status.WriteFault (lifted b c) initial now
 left_there b c initial now (inl stand) = inl stand
@@ -232,7 +241,7 @@ module _ (front ahead : List ℕ) (is : IsWholeLines front) (few : length front 
           there = (
             (at.0, at.1 ++ b.rest, ap (λ (ls : List Line). ls ++ b.rest) at.2),
             f.there.1,
-            lacks_on c.last c.done c.rest b.rest c.begun c.left initial now c.parts f.there.2,
+            (lacks_on c.last c.done c.rest b.rest c.begun c.left initial now c.parts f.there.2.0, shown_on H c.done c.rest b.rest c.begun c.left c.parts f.there.2.1),
             λ more. told_there b c number (played_text c.played ++ more) (f.there.3 more),
             (inr (next_whole c b.rest at.0 at.1 at.2), (untouched_lifted b c initial now f.there.4.0, f.there.4.1)),
           );

@@ -114,7 +114,7 @@ over {H = H} o None ps items v t first run (none, is, told, stays) =
       run = subst (λ (x : Option World). RunsTo o (ps ++ []) x) (sym is) (subst (λ (xs : List Played). RunsTo o xs None) (sym (append-nil ps)) run);
       reported = told;
       few = subst (λ (x : Option World). IfSome x (λ u. u.events ≤ most_events)) (sym is) tt;
-      shown = λ f. subst (λ (xs : List Played). H (stores_in o) (events_played xs)) (sym (append-nil ps)) (stays (stores_in o) (events_played ps) f);
+      shown = λ f. subst (λ (xs : List Played). H.events (stores_in o) (events_played xs)) (sym (append-nil ps)) (stays (stores_in o) (events_played ps) f);
     }
 over None (Some w) ps items v t first run from = absurd (let e : Some w ≡ None = run.1 in cc)
 over {G = G} {H = H} (Some w0) (Some w) ps items v t begins (u, is, plays) (z, at, runs, shown) =
@@ -341,9 +341,9 @@ pub run_with : (ground : StartState) (done : List Line) (line : Line) (ps : List
 run_with ground done line ps v busy run =
     subst (λ (o : Option World). RunsTo o ps v) (sym (ap (λ (b : Beginning). b.world) (begin_next ground _ done line) ∙ busy.begins ground (beginning_of ground done))) run
 
-pub busy_seen : (H : Saw) (ground : StartState) (done : List Line) (line : Line) (ps : List Played) → IsBusy line → H (stores_in (beginning_of ground done).world) (events_played ps) → H (stores_in (beginning_of ground (done ++ line ∷ [])).world) (events_played ps)
+pub busy_seen : (H : Saw) (ground : StartState) (done : List Line) (line : Line) (ps : List Played) → IsBusy line → H.events (stores_in (beginning_of ground done).world) (events_played ps) → H.events (stores_in (beginning_of ground (done ++ line ∷ [])).world) (events_played ps)
 busy_seen H ground done line ps busy seen =
-    subst (λ (o : Option World). H (stores_in o) (events_played ps)) (sym (ap (λ (b : Beginning). b.world) (begin_next ground _ done line) ∙ busy.begins ground (beginning_of ground done))) seen
+    subst (λ (o : Option World). H.events (stores_in o) (events_played ps)) (sym (ap (λ (b : Beginning). b.world) (begin_next ground _ done line) ∙ busy.begins ground (beginning_of ground done))) seen
 
 abbrev pub all_of_line : {table : List Row} {S G H : Saw} (ends : Bool) (script : Script) (texts : List (List ℕ)) (text : List ℕ) (n : ℕ) (p : Player) (initial old : List Device) (before mid : Option (List ℕ)) (line : Line) (begun : List Item) (v : Option World) (t : List ℕ)
     → (r : Reached table ends script (text ∷ texts) n p (span initial old before mid S G)) → line_of p.place text ≡ Ok line → item_by (place_behind first_place r.done) line ≡ begun → IsBusy line → Over (beginning_of r.ground r.done).world r.played begun v t G H → Progress table script

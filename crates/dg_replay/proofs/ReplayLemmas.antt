@@ -1,5 +1,5 @@
 -- What the texts of a script do, one after the other.
-use Rattle.std.proofs.Common.{◌≡◌, ◌≢◌, ◌⊎◌, inl, inr, ⊎_elim, ℕ, ◌≤◌, Bool, List, [], ◌∷◌, ◌++◌, length, map, take, length-append, refl, append-nil, append_assoc, ap, sym, ◌∙◌, subst, arith}
+use Rattle.std.proofs.Common.{◌≡◌, ◌⊎◌, inl, inr, ⊎_elim, ℕ, ◌≤◌, Bool, List, [], ◌∷◌, ◌++◌, length, take, length-append, refl, append-nil, append_assoc, ap, sym, ◌∙◌, subst, arith}
 use Rattle.std.specs.Prelude.{Option, Some, None, Ok, Err, IfSome}
 use Rattle.std.proofs.lemmas.List.{take_at, take_all}
 use Rattle.dg_base.proofs.OutsideLemmas.{Puts-nil}
@@ -21,9 +21,9 @@ use Rattle.dg_replay.specs.Items.{UsesBoards, is_boards, begin_behind, beginning
 use Rattle.dg_replay.specs.Boards.{InSome, LacksImage, BoardsStand, StoppedIn}
 use Rattle.dg_replay.specs.Ending.{events_in}
 use Rattle.dg_base.specs.declared.answers.Status.TheVariants as status
-use Rattle.dg_replay.specs.Replayed.{Progress, AtTooMany, NoImageThere, BoardStoppedThere, BoardsLeft, item_played, played_text}
-use Rattle.dg_replay.specs.Playing.{InWorld, Stood, Ready, Joined, RunsOn, RunsFrom, LineBegun, IsOneTooMany}
-use Rattle.dg_replay.specs.Replaying.{TextPlayed, TextCut, TextRead, NothingDone, TextAnswer, CutAtStop, CutAtTooMany, CutAtImage, Reached, PlayedPrefix, PlayedUpTo, HasFew, ReportedBefore, IsLeft, StopsThere}
+use Rattle.dg_replay.specs.Replayed.{Progress, AtTooMany, BoardStoppedThere, BoardsLeft, played_text}
+use Rattle.dg_replay.specs.Playing.{InWorld, Stood, Ready, Joined, RunsOn, RunsFrom, LineBegun, IsOneTooMany, LacksShown}
+use Rattle.dg_replay.specs.Replaying.{TextPlayed, TextCut, TextRead, NothingDone, TextAnswer, CutAtStop, CutAtTooMany, CutAtImage, Reached, PlayedPrefix, PlayedUpTo, HasFew, ReportedBefore, IsLeft, NoImageShown, StopsThere}
 use Rattle.dg_replay.specs.declared.player.Player.{Player}
 use Rattle.dg_replay.specs.declared.stop.Stop.{Stop}
 use Rattle.dg_replay.specs.Untouched.{TextKeepsBytes}
@@ -205,12 +205,12 @@ image_told ends script texts text n p initial old before mid line r spelled b o 
 
 -- an event of a line found no image to start
 image_begun : {table : List Row} {S G H : Saw} (ends : Bool) (script : Script) (texts : List (List ℕ)) (text : List ℕ) (n : ℕ) (p : Player) (initial old now : List Device) (before mid after : Option (List ℕ)) (line : Line) (r : Reached table ends script (text ∷ texts) n p (span initial old before mid S G))
-    → TextKeepsBytes p.place text old now → line_of p.place text ≡ Ok line → UsesBoards r.done → LineBegun r.done line r.last G H (λ v left t. InSome v (λ u. LacksImage u left initial now) × Puts mid after t)
-    → PlayedUpTo table script initial before after (λ c. ((line : Line) × (more : List Line) × (c.rest ≡ line ∷ more)) × UsesBoards c.done × NoImageThere c initial now × ((more : List ℕ) → ReportedBefore n c (played_text c.played ++ more)) × IsLeft (span initial now before after S H) c)
+    → TextKeepsBytes p.place text old now → line_of p.place text ≡ Ok line → UsesBoards r.done → LineBegun r.done line r.last G H (λ v left t. LacksShown H v left initial now × Puts mid after t)
+    → PlayedUpTo table script initial before after (λ c. ((line : Line) × (more : List Line) × (c.rest ≡ line ∷ more)) × UsesBoards c.done × NoImageShown (span initial now before after S H) c × ((more : List ℕ) → ReportedBefore n c (played_text c.played ++ more)) × IsLeft (span initial now before after S H) c)
 image_begun ends script texts text n p initial old now before mid after line r kept spelled uses b =
     let o = run_of ends script texts text n p initial old before mid line r b in
     record {
-      came = in_line ends script texts text n p initial old before mid line r spelled b o (λ none. absurd (lacks_left b.world b.left initial now b.there.0 none));
+      came = in_line ends script texts text n p initial old before mid line r spelled b o (λ none. absurd (lacks_left b.world b.left initial now b.there.0.0 none));
       reported = all_put before mid after r.played (r.played ++ o.now) b.text r.reported (over_tells (beginning_of r.ground r.done).world b.world r.played b.begun b.text o) b.there.1;
       limits = over_bounds (length initial) r.ground r.done b.world r.played b.begun b.text r.boards_enough o;
       stood = λ uses. (r.grounded uses).1;
@@ -218,8 +218,8 @@ image_begun ends script texts text n p initial old now before mid after line r k
         (line, _, refl),
         uses,
         b.there.0,
-        λ more. image_told ends script texts text n p initial old before mid line r spelled b o (λ none. absurd (lacks_left b.world b.left initial now b.there.0 none)) more,
-        (kept_begun ends script texts text n p initial old now before mid line r kept spelled b o (λ none. absurd (lacks_left b.world b.left initial now b.there.0 none)), λ f. o.shown (r.seen f)),
+        λ more. image_told ends script texts text n p initial old before mid line r spelled b o (λ none. absurd (lacks_left b.world b.left initial now b.there.0.0 none)) more,
+        (kept_begun ends script texts text n p initial old now before mid line r kept spelled b o (λ none. absurd (lacks_left b.world b.left initial now b.there.0.0 none)), λ f. o.shown (r.seen f)),
       );
     }
 
@@ -341,7 +341,7 @@ stopped_at (NoBoard motes boards) ends script texts text n p q initial old now b
     )
 stopped_at NoImage ends script texts text n p q initial old now before mid after failed worse spread r found kept t =
     let b = t.there in
-    image_begun ends script texts text n p initial old now before mid after t.line r kept t.spelled (image_uses r found t.line t.spelled b.begun b.left b.parts b.world b.text b.runs b.there.0) b
+    image_begun ends script texts text n p initial old now before mid after t.line r kept t.spelled (image_uses r found t.line t.spelled b.begun b.left b.parts b.world b.text b.runs b.there.0.0) b
 stopped_at NotAVolume ends script texts text n p q initial old now before mid after failed worse spread r found kept (t, told, stays) =
     let spelled = t.spelled ∙ ap (λ (l : Line). Ok l) t.there.0 in
     at_line_put ends script (text ∷ texts) n p initial old before mid after r told (

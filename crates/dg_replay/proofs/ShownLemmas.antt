@@ -141,23 +141,23 @@ pub stays_then : (F G H : Saw) → StaysSeen F G → StaysSeen G H → StaysSeen
 stays_then F G H first next = λ stores events f. next stores events (first stores events f)
 
 pub shows_none : (F G : Saw) (w : World) → StaysSeen F G → Shows F G w []
-shows_none F G w stays = λ stores events lead f. subst (λ (es : List Played). G stores es) (sym (append-nil events)) (stays stores events f)
+shows_none F G w stays = λ stores events lead f. subst (λ (es : List Played). G.events stores es) (sym (append-nil events)) (stays stores events f)
 
 pub shows_same : (F : Saw) (w : World) → Shows F F w []
 shows_same F w = shows_none F F w (stays_same F)
 
 pub shows_join : (F G H : Saw) (w u : World) (xs ys : List Played) → Shows F G w xs → Plays w xs u → Shows G H u ys → Shows F H w (xs ++ ys)
 shows_join F G H w u xs ys first run next = λ stores events lead f.
-    subst (λ (es : List Played). H stores es) (append_assoc events (events_played xs) (events_played ys) ∙ ap (λ (es : List Played). events ++ es) (sym (events_played-append xs ys)))
+    subst (λ (es : List Played). H.events stores es) (append_assoc events (events_played xs) (events_played ys) ∙ ap (λ (es : List Played). events ++ es) (sym (events_played-append xs ys)))
     (next stores (events ++ events_played xs) (lead_on stores events w u xs lead run) (first stores events lead f))
 
 -- what is shown before there is a world
-pub shows_nothing : (F G : Saw) (o : Option World) (ps : List Played) → RunsTo o ps None → (F [] [] → G [] []) → F (stores_in o) (events_played ps) → G [] []
+pub shows_nothing : (F G : Saw) (o : Option World) (ps : List Played) → RunsTo o ps None → (F.events [] [] → G.events [] []) → F.events (stores_in o) (events_played ps) → G.events [] []
 shows_nothing F G o ps r on f =
     let e = runs_from_none o ps r in
-    on (subst (λ (es : List Played). F [] es) (ap events_played e.1) (subst (λ (x : Option World). F (stores_in x) (events_played ps)) e.0 f))
+    on (subst (λ (es : List Played). F.events [] es) (ap events_played e.1) (subst (λ (x : Option World). F.events (stores_in x) (events_played ps)) e.0 f))
 
 -- a run continues
-pub shows_from : (F G : Saw) (o : Option World) (ps qs : List Played) (w : World) → IfSome o IsFirst → RunsTo o ps (Some w) → Shows F G w qs → F (stores_in o) (events_played ps) → G (stores_in o) (events_played (ps ++ qs))
+pub shows_from : (F G : Saw) (o : Option World) (ps qs : List Played) (w : World) → IfSome o IsFirst → RunsTo o ps (Some w) → Shows F G w qs → F.events (stores_in o) (events_played ps) → G.events (stores_in o) (events_played (ps ++ qs))
 shows_from F G o ps qs w first run shown f =
-    subst (λ (es : List Played). G (stores_in o) es) (sym (events_played-append ps qs)) (shown (stores_in o) (events_played ps) (lead_from o ps w first run) f)
+    subst (λ (es : List Played). G.events (stores_in o) es) (sym (events_played-append ps qs)) (shown (stores_in o) (events_played ps) (lead_from o ps w first run) f)

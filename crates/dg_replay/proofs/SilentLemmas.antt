@@ -85,19 +85,19 @@ no_motes p None now none k = k
 no_motes p (Some w) now none k = absurd (omega (arith, none, k.3))
 
 -- before the boards are used nothing was played
-motes_shown : (F G : Saw) (o : Option World) (played : List Played) → RunsTo o played None → (F [] [] → G [] []) → F (stores_in o) (events_played played) → G (stores_in o) (events_played played)
+motes_shown : (F G : Saw) (o : Option World) (played : List Played) → RunsTo o played None → (F.events [] [] → G.events [] []) → F.events (stores_in o) (events_played played) → G.events (stores_in o) (events_played played)
 motes_shown F G o played r shown f =
     let e = runs_from_none o played r in
-    subst (λ (x : Option World). G (stores_in x) (events_played played)) (sym e.0) (subst (λ (es : List Played). G [] es) (sym (ap events_played e.1)) (shows_nothing F G o played r shown f))
+    subst (λ (x : Option World). G.events (stores_in x) (events_played played)) (sym e.0) (subst (λ (es : List Played). G.events [] es) (sym (ap events_played e.1)) (shows_nothing F G o played r shown f))
 
-pub motes_played : {table : List Row} (p q : Player) (done : List Line) (w : Option World) (motes : ℕ) (before told : Told) (initial now : List Device) → StandsAt p.place (Motes motes) → q.place ≡ place_after p.place (Motes motes) → Counted motes (length now) → told.text ≡ before.text → (before.saw [] [] → told.saw [] []) → Stood p done w initial now
+pub motes_played : {table : List Row} (p q : Player) (done : List Line) (w : Option World) (motes : ℕ) (before told : Told) (initial now : List Device) → StandsAt p.place (Motes motes) → q.place ≡ place_after p.place (Motes motes) → Counted motes (length now) → told.text ≡ before.text → (before.saw.events [] [] → told.saw.events [] []) → Stood p done w initial now
     → PlayedLine (based_on table initial) q (done_so_far done w) (Motes motes) before (boards_told now told)
 motes_played {table} p q done w motes before told initial now stands place counted same shown s =
     let unready = no_motes p w now (eqb-true p.place.motes 0 stands.fits) s.world in
     let kept = no_world p w now unready s.world in
     motes_first p q done motes before told initial now stands place counted unready same shown (subst (λ (o : Option World). Stood p done o initial now) kept s) (sym kept)
   where
-    motes_first : (p q : Player) (done : List Line) (motes : ℕ) (before told : Told) (initial now : List Device) → StandsAt p.place (Motes motes) → q.place ≡ place_after p.place (Motes motes) → Counted motes (length now) → p.place.ready ≡ false → told.text ≡ before.text → (before.saw [] [] → told.saw [] []) → Stood p done None initial now
+    motes_first : (p q : Player) (done : List Line) (motes : ℕ) (before told : Told) (initial now : List Device) → StandsAt p.place (Motes motes) → q.place ≡ place_after p.place (Motes motes) → Counted motes (length now) → p.place.ready ≡ false → told.text ≡ before.text → (before.saw.events [] [] → told.saw.events [] []) → Stood p done None initial now
         → {w : Option World} → None ≡ w → PlayedLine (based_on table initial) q (done_so_far done w) (Motes motes) before (boards_told now told)
     motes_first p q done motes before told initial now stands place counted unready same shown s {w} e =
         let many : q.place.motes ≡ motes = ap (λ (x : Place). x.motes) place in
@@ -119,7 +119,7 @@ lacking_boards p done None motes boards initial now none count short s = record 
 lacking_boards p done (Some w) motes boards initial now none count short s = absurd (omega (arith, none, s.world.3))
 
 pub motes_as : (table : List Row) (r : Result (Unit {0}) Stop) (p q : Player) (done : List Line) (w : Option World) (motes boards : ℕ) (before told : Told) (initial now : List Device) → StandsAt p.place (Motes motes) → q.place ≡ place_after p.place (Motes motes) → (1 ≤ motes) × (motes ≤ most_motes) → boards ≡ length now
-    → OnOk r (motes ≤ boards) → ((stop : Stop) → r ≡ Err stop → (stop ≡ NoBoard motes boards) × (boards < motes)) → told.text ≡ before.text → (before.saw [] [] → told.saw [] []) → OnErr r (StaysSeen before.saw told.saw) → Stood p done w initial now → PlayedAs (based_on table initial) r q (done_so_far done w) (Motes motes) (boards_told now before) (boards_told now told)
+    → OnOk r (motes ≤ boards) → ((stop : Stop) → r ≡ Err stop → (stop ≡ NoBoard motes boards) × (boards < motes)) → told.text ≡ before.text → (before.saw.events [] [] → told.saw.events [] []) → OnErr r (StaysSeen before.saw told.saw) → Stood p done w initial now → PlayedAs (based_on table initial) r q (done_so_far done w) (Motes motes) (boards_told now before) (boards_told now told)
 motes_as table (Ok u) p q done w motes boards before told initial now stands place fits count enough missing same shown stays s =
     motes_played p q done w motes before told initial now stands place (fits.0, fits.1, subst (λ (n : ℕ). motes ≤ n) count enough) same shown s
 motes_as table (Err stop) p q done w motes boards before told initial now stands place fits count enough missing same shown stays s =
@@ -181,7 +181,7 @@ pub golden_played : {table : List Row} (p q : Player) (done : List Line) (w : Op
     → ((m : ℕ) (d : Device) → m < motes → slice_get old m ≡ Some d → d.stopped ≡ false) → AreSteady old new → FirstBoards motes old new
     → ((boards : List Device) (stores : List Store) (table : List Row) → length stores ≡ motes → motes ≤ length boards
     → ((m : ℕ) (d : Device) → m < motes → slice_get boards m ≡ Some d → Stands d.image (slice_index_or stores m no_site.store)) → IsWorld q.world boards (first_world table [] none_narrow stores))
-    → told.text ≡ before.text → ((stores : List Store) → IsPlaced motes (Some used) initial new stores → before.saw [] [] → told.saw stores [])
+    → told.text ≡ before.text → ((stores : List Store) → IsPlaced motes (Some used) initial new stores → before.saw.events [] [] → told.saw.events stores [])
     → Stood p done w initial old → PlayedLine (based_on table initial) q (done_so_far done w) (Golden name used content) before (boards_told new told)
 golden_played p q done (Some w) name used content motes before told initial old new unready count counted place formatted awake calm others begins same_text placed s = false_not p.place.ready s.world.2 unready
 golden_played p q done None name used content motes before told initial old new unready count counted place formatted awake calm others begins same_text placed s =
@@ -268,7 +268,7 @@ pub boards_played : (table : List Row) (p q : Player) (done : List Line) (w : Op
     → ((m : ℕ) (d : Device) → m < motes → slice_get old m ≡ Some d → d.stopped ≡ false) → AreSteady old new → SameBoards old new → ((m : ℕ) → motes ≤ m → slice_get new m ≡ slice_get old m)
     → ((boards : List Device) (stores : List Store) (table : List Row) → length stores ≡ motes → motes ≤ length boards
     → ((m : ℕ) (d : Device) → m < motes → slice_get boards m ≡ Some d → Stands d.image (slice_index_or stores m no_site.store)) → IsWorld q.world boards (first_world table [] none_narrow stores))
-    → told.text ≡ before.text → ((stores : List Store) → IsPlaced motes None initial new stores → before.saw [] [] → told.saw stores [])
+    → told.text ≡ before.text → ((stores : List Store) → IsPlaced motes None initial new stores → before.saw.events [] [] → told.saw.events stores [])
     → Stood p done w initial old → PlayedLine (based_on table initial) q (done_so_far done w) Boards before (boards_told new told)
 boards_played table p q done (Some w) motes before told initial old new unready count counted place stand awake calm same others begins same_text placed s = false_not p.place.ready s.world.2 unready
 boards_played table p q done None motes before told initial old new unready count counted place (stores, stand, shaped) awake calm same others begins same_text placed s =

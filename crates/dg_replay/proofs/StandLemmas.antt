@@ -180,7 +180,7 @@ grounded_motes g done n played r = λ uses.
 -- a line without items
 pub silent_runs : {table : List Row} {initial : List Device} {F G : Saw} (done : List Line) (line : Line) (w : Option World) → item_by (place_behind first_place done) line ≡ [] → ((g : StartState) → (begin_by g (beginning_of g done) line).world ≡ (beginning_of g done).world)
     → ((g : StartState) (played : List Played) → RunsTo (beginning_of g done).world played w → Grounded table initial g done → Grounded table initial g (done ++ line ∷ []))
-    → ((g : StartState) (played : List Played) → RunsTo (beginning_of g done).world played w → F (stores_in (beginning_of g done).world) (events_played played) → G (stores_in (beginning_of g done).world) (events_played played)) → LineRuns table initial done line w w (line_told [] F G)
+    → ((g : StartState) (played : List Played) → RunsTo (beginning_of g done).world played w → F.events (stores_in (beginning_of g done).world) (events_played played) → G.events (stores_in (beginning_of g done).world) (events_played played)) → LineRuns table initial done line w w (line_told [] F G)
 silent_runs {F = F} {G = G} done line w none same ground shown = λ g played before items r. record {
   on = record {
     ground = g;
@@ -191,7 +191,7 @@ silent_runs {F = F} {G = G} done line w none same ground shown = λ g played bef
     reported = sym (append-nil (played_text played));
     on = inl refl;
   };
-  shown = λ f. subst (λ (o : Option World). G (stores_in o) (events_played played)) (sym (same_world g done line (same g))) (shown g played r f);
+  shown = λ f. subst (λ (o : Option World). G.events (stores_in o) (events_played played)) (sym (same_world g done line (same g))) (shown g played r f);
 }
 
 -- a line with items
@@ -207,18 +207,18 @@ busy_runs {F = F} {G = G} done line u z items text are same plain counts x shown
     reported = played_more played x.played ∙ ap (λ (xs : List ℕ). played_text played ++ xs) (sym x.reported);
     on = inr (x.played, refl);
   };
-  shown = λ f. subst (λ (o : Option World). G (stores_in o) (events_played (played ++ x.played))) (sym (same_world g done line (same g))) (shows_from F G (beginning_of g done).world played x.played u (begins_first g done) r shown f);
+  shown = λ f. subst (λ (o : Option World). G.events (stores_in o) (events_played (played ++ x.played))) (sym (same_world g done line (same g))) (shows_from F G (beginning_of g done).world played x.played u (begins_first g done) r shown f);
 }
 
 -- the boards are used from now on
-placed_from : (F G : Saw) (o v : Option World) (w : World) (stores : List Store) (played : List Played) → RunsTo o played None → v ≡ Some w → stores_in (Some w) ≡ stores → (F [] [] → G stores []) → F (stores_in o) (events_played played) → G (stores_in v) (events_played played)
+placed_from : (F G : Saw) (o v : Option World) (w : World) (stores : List Store) (played : List Played) → RunsTo o played None → v ≡ Some w → stores_in (Some w) ≡ stores → (F.events [] [] → G.events stores []) → F.events (stores_in o) (events_played played) → G.events (stores_in v) (events_played played)
 placed_from F G o v w stores played r is are placed f =
     let none : played ≡ [] = (runs_from_none o played r).1 in
-    subst (λ (x : Option World). G (stores_in x) (events_played played)) (sym is)
-    (subst (λ (ss : List Store). G ss (events_played played)) (sym are)
-    (subst (λ (es : List Played). G stores es) (sym (ap events_played none)) (shows_nothing F (λ ss es. G stores []) o played r placed f)))
+    subst (λ (x : Option World). G.events (stores_in x) (events_played played)) (sym is)
+    (subst (λ (ss : List Store). G.events ss (events_played played)) (sym are)
+    (subst (λ (es : List Played). G.events stores es) (sym (ap events_played none)) (shows_nothing F (record G { events = λ ss es. G.events stores [] }) o played r placed f)))
 
-pub golden_runs : {table : List Row} {initial : List Device} {F G : Saw} (done : List Line) (name : List ℕ) (used : ℕ) (content : List ℕ) (motes : ℕ) → motes ≡ motes_in done → (F [] [] → G (replicate motes (fresh name content used)) []) → LineRuns table initial done (Golden name used content) None (Some (golden_world motes name used content)) (line_told [] F G)
+pub golden_runs : {table : List Row} {initial : List Device} {F G : Saw} (done : List Line) (name : List ℕ) (used : ℕ) (content : List ℕ) (motes : ℕ) → motes ≡ motes_in done → (F.events [] [] → G.events (replicate motes (fresh name content used)) []) → LineRuns table initial done (Golden name used content) None (Some (golden_world motes name used content)) (line_told [] F G)
 golden_runs {F = F} {G = G} done name used content motes is placed = λ g played before items r.
     let many : (beginning_of g done).motes ≡ motes = motes_same g no_start_state no_beginning no_beginning done refl ∙ sym is in
     record {
@@ -242,7 +242,7 @@ golden_runs {F = F} {G = G} done name used content motes is placed = λ g played
     }
 
 -- the boards are used as they are, and checked against any table
-pub boards_runs : {initial : List Device} {F G : Saw} (done : List Line) (table : List Row) (stores : List Store) → StandFor (motes_in done) stores initial → AreShaped stores → (F [] [] → G stores []) → LineRuns table initial done Boards None (Some (first_world table [] none_narrow stores)) (line_told [] F G)
+pub boards_runs : {initial : List Device} {F G : Saw} (done : List Line) (table : List Row) (stores : List Store) → StandFor (motes_in done) stores initial → AreShaped stores → (F.events [] [] → G.events stores []) → LineRuns table initial done Boards None (Some (first_world table [] none_narrow stores)) (line_told [] F G)
 boards_runs {initial} {F} {G} done table stores stand shaped placed = λ g played before items r.
     let ground : StartState = record { stores = stores; table = table } in
     let count : motes_in (done ++ Boards ∷ []) ≡ motes_in done = ap (λ (b : Beginning). b.motes) (begin_next no_start_state no_beginning done Boards) in
@@ -325,11 +325,11 @@ stores_set f s (Some w) = ap (λ (xs : List Site). map (λ (x : Site). x.store) 
 events_set : (f : World → World) (ps : List Played) → AllByRecursion IsDeclaration (map item_played ps) → events_played (map (set_in f) ps) ≡ events_played ps
 events_set f ps all = declared_none (map (set_in f) ps) (subst (λ (xs : List Item). AllByRecursion IsDeclaration xs) (sym (items_set f ps)) all) ∙ sym (declared_none ps all)
 
-seen_set : (f : World → World) → Sets f → (F G : Saw) (o v : Option World) (ps : List Played) → AllByRecursion IsDeclaration (map item_played ps) → v ≡ option_map f o → StaysSeen F G → F (stores_in o) (events_played ps) → G (stores_in v) (events_played (map (set_in f) ps))
+seen_set : (f : World → World) → Sets f → (F G : Saw) (o v : Option World) (ps : List Played) → AllByRecursion IsDeclaration (map item_played ps) → v ≡ option_map f o → StaysSeen F G → F.events (stores_in o) (events_played ps) → G.events (stores_in v) (events_played (map (set_in f) ps))
 seen_set f s F G o v ps all is stays seen =
-    subst (λ (x : Option World). G (stores_in x) (events_played (map (set_in f) ps))) (sym is)
-    (subst (λ (ss : List Store). G ss (events_played (map (set_in f) ps))) (sym (stores_set f s o))
-    (subst (λ (es : List Played). G (stores_in o) es) (sym (events_set f ps all)) (stays (stores_in o) (events_played ps) seen)))
+    subst (λ (x : Option World). G.events (stores_in x) (events_played (map (set_in f) ps))) (sym is)
+    (subst (λ (ss : List Store). G.events ss (events_played (map (set_in f) ps))) (sym (stores_set f s o))
+    (subst (λ (es : List Played). G.events (stores_in o) es) (sym (events_set f ps all)) (stays (stores_in o) (events_played ps) seen)))
 
 -- after such a line, the same was played from a world in which it is set
 set_runs : {table : List Row} {initial : List Device} {F G : Saw} (f : World → World) → Sets f → (done : List Line) (line : Line) (w : World) → AllByRecursion IsDeclaration (items_of done) → item_by (place_behind first_place done) line ≡ []

@@ -67,7 +67,7 @@ begun_as table NoImage result text number p q done w initial old new before afte
       inr (record {
         line = line;
         spelled = spelled;
-        there = begun_then (λ v left t h. inr (inr (subst (λ (xs : List ℕ). xs ≢ []) h.1 some, h.0, subst (λ (xs : List ℕ). PutsPrefix before after xs) h.1 cut))) played;
+        there = begun_then (λ v left t h. inr (inr (subst (λ (xs : List ℕ). xs ≢ []) h.1 some, h.0.0, subst (λ (xs : List ℕ). PutsPrefix before after xs) h.1 cut))) played;
       }),
     )
 begun_as table FlashFault result text number p q done w initial old new before after failed F G line told spelled played (inl (is, put)) =

@@ -32,7 +32,7 @@ use Rattle.dg_replay.specs.Boards.{LacksImage}
 use Rattle.dg_script.specs.Items.{Item, Declares, Applies, item_by, items_of, place_behind}
 use Rattle.dg_replay.specs.Items.{StartState, UsesBoards, beginning_of, motes_in, lacking_by}
 use Rattle.dg_replay.specs.Replayed.{IsGround, item_played, played_text, RunsTo}
-use Rattle.dg_replay.specs.Shown.{Saw, Shows, StaysSeen, GoesOnSeen}
+use Rattle.dg_replay.specs.Shown.{Saw, Shows, EndShown, StaysSeen, GoesOnSeen}
 use Rattle.dg_replay.specs.Stages.{Baseline, based_on, DoneSoFar, Told, LineTold, line_told, BoardsTold}
 use Rattle.dg_replay.specs.declared.player.Player.{Player}
 use Rattle.dg_replay.specs.declared.stop.Stop.{Stop}
@@ -79,6 +79,10 @@ pub record IsOneTooMany (w : World) (left : List Item) : Type 0 where
   pub full : w.events ≡ most_events
   pub next : EventNext left
 
+-- the first of the items that are left is an event that found no image to start, which a watcher was shown
+abbrev pub LacksShown : Saw → Option World → (left : List Item) → (initial now : List Device) → Type 0
+LacksShown saw v left initial now = InSome v (λ u. LacksImage u left initial now) × EndShown saw left
+
 -- a board stopped in the first of the items that are left
 pub record StopsInItem (w : World) (left : List Item) (initial now : List Device) : Type 0 where
   pub stopped : BoardStopped (length w.sites) initial now
@@ -98,7 +102,7 @@ ItemsPlayedAs (Err FlashFault) w items kept initial before b =
     ItemsBegun w items before.saw b.told.saw (λ v left text. StopsInItem v left initial b.boards
     × (b.told.text ≡ before.text ++ text))
 ItemsPlayedAs (Err NoImage) w items kept initial before b =
-    ItemsBegun w items before.saw b.told.saw (λ v left text. LacksImage v left initial b.boards
+    ItemsBegun w items before.saw b.told.saw (λ v left text. (LacksImage v left initial b.boards × EndShown b.told.saw left)
     × (b.told.text ≡ before.text ++ text))
 ItemsPlayedAs (Err NotAVolume) w items kept initial before b = ⊥
 ItemsPlayedAs (Err (NoBoard motes boards)) w items kept initial before b = ⊥
@@ -251,7 +255,7 @@ PlayedAs basis (Err TooMany) q behind line a b =
     × BoardsStand v basis.boards b.boards × (b.told.text ≡ a.told.text ++ text))
 PlayedAs basis (Err NoImage) q behind line a b =
     LineBegun behind.lines line behind.world a.told.saw b.told.saw (λ v left text.
-    InSome v (λ u. LacksImage u left basis.boards b.boards) × (b.told.text ≡ a.told.text ++ text))
+    LacksShown b.told.saw v left basis.boards b.boards × (b.told.text ≡ a.told.text ++ text))
 PlayedAs basis (Err NotAVolume) q behind line a b =
     (line ≡ Boards) × NoVolumeIn (motes_in behind.lines) basis.boards b.boards × StaysSeen a.told.saw b.told.saw
 PlayedAs basis (Err (BadInput n fault)) q behind line a b = ⊥

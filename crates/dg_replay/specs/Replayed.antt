@@ -7,9 +7,9 @@ use Rattle.std.specs.List.{AllByRecursion, flat_map}
 use Rattle.dg_words.specs.Counts.{Rose}
 use Rattle.dg_base.specs.Outside.{Takes, Puts, AtEnd}
 use Rattle.dg_base.specs.declared.answers.Status.{Status}
-use Rattle.dg_base.specs.declared.answers.Status.TheVariants.{Done, Memory, BadInput, ReadFault, WriteFault, FlashFault}
+use Rattle.dg_base.specs.declared.answers.Status.TheVariants.{Memory, BadInput, ReadFault, WriteFault, FlashFault}
 use Rattle.dg_base.specs.declared.answers.Status.TheVariants.{Usage, Refused, LinkFault}
-use Rattle.dg_base.specs.declared.answers.Status.TheVariants.{NotAVolume, TooLong, TooMany, NoBoard, NoImage}
+use Rattle.dg_base.specs.declared.answers.Status.TheVariants.{NotAVolume, NoImage}
 use Rattle.dg_nor.specs.Device.{Device}
 use Rattle.dg_script.specs.Report.{report_text}
 use Rattle.dg_script.specs.Fitting.{UsesBoard}
@@ -33,7 +33,7 @@ use Rattle.dg_world.specs.Boards.{BoardStopped}
 use Rattle.dg_replay.specs.Boards.{BoardsStand, StoppedIn, EventNext, InSome, NoVolumeIn, LacksImage}
 use Rattle.dg_replay.specs.Items.{StartState, UsesBoards, beginning_of, motes_in, next_items, events_among}
 use Rattle.dg_outside.specs.Outside.{Outside}
-use Rattle.dg_replay.specs.Shown.{Saw, stores_in, events_played}
+use Rattle.dg_replay.specs.Shown.{Saw, EndShown, stores_in, events_played}
 use Rattle.dg_replay.specs.Stages.{BytesTaken}
 use Rattle.dg_replay.specs.Ending.{Ending, Ends, NoBoards, TooManyEvents, FaultAt, InBounds, whole_lines, ending_of}
 use Rattle.dg_replay.specs.Ending.{ending_line, ending_status, script_of}
@@ -80,7 +80,11 @@ pub record Progress (table : List Row) (script : Script) : Type 0 where
 
 -- a watcher saw the events that were played, from where the run begins
 abbrev pub IsSeen : {table : List Row} {script : Script} → Saw → Progress table script → Type 0
-IsSeen saw c = saw (stores_in (beginning_of c.ground c.done).world) (events_played c.played)
+IsSeen saw c = saw.events (stores_in (beginning_of c.ground c.done).world) (events_played c.played)
+
+-- where the replay ended with this status since an event found no image to start, a watcher was shown that
+abbrev pub IsEndSeen : {table : List Row} {script : Script} → Status → Saw → Progress table script → Type 0
+IsEndSeen status saw c = status ≡ NoImage → EndShown saw c.left
 
 -- the end of a report
 abbrev pub closing : Ending → Option World → List ℕ

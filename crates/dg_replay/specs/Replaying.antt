@@ -33,10 +33,10 @@ use Rattle.dg_replay.specs.inner.Words.{report_of_lines}
 use Rattle.dg_replay.specs.Replayed.{NextIsWhole}
 use Rattle.dg_replay.specs.Replayed.{DoneIsWhole, RestsOnTaken, ReadsNear, NoVolumeThere, NoImageThere, no_volume_line}
 use Rattle.dg_replay.specs.Replayed.{no_image_line}
-use Rattle.dg_replay.specs.Shown.{Saw, StaysSeen, stores_in, events_played}
+use Rattle.dg_replay.specs.Shown.{Saw, EndShown, StaysSeen, stores_in, events_played}
 use Rattle.dg_replay.specs.Stages.{Baseline, DoneSoFar, ReplayState, LineRead, Span, BytesTaken, Failures, told_so_far}
 use Rattle.dg_replay.specs.Stages.{boards_told, span_between}
-use Rattle.dg_replay.specs.Playing.{Stood, PlayedLine, LineBegun, IsOneTooMany, LacksBoards, Grounded}
+use Rattle.dg_replay.specs.Playing.{Stood, PlayedLine, LineBegun, IsOneTooMany, LacksShown, LacksBoards, Grounded}
 use Rattle.dg_replay.specs.declared.player.Player.{Player}
 use Rattle.dg_script.specs.declared.line.Line.{Line}
 use Rattle.dg_script.specs.declared.line.Line.TheVariants.{Motes, Boards}
@@ -152,7 +152,7 @@ TextAnswer basis (Err (NoBoard motes boards)) read behind a b failed =
     × (b.written ≡ a.written) × StaysSeen a.saw b.saw
 TextAnswer basis (Err NoImage) read behind a b failed = TextRead read.text a.player (λ line.
     LineBegun behind.lines line behind.world a.saw b.saw (λ v left t.
-    InSome v (λ u. LacksImage u left basis.boards b.boards) × Puts a.written b.written t))
+    LacksShown b.saw v left basis.boards b.boards × Puts a.written b.written t))
 TextAnswer basis (Err NotAVolume) read behind a b failed =
     TextRead read.text a.player (λ line. (line ≡ Boards) × NoVolumeIn (motes_in behind.lines) basis.boards b.boards)
     × (b.written ≡ a.written) × StaysSeen a.saw b.saw
@@ -171,20 +171,19 @@ pub record Reached (table : List Row) (ends : Bool) (script : Script) (texts : L
   pub run : RunsTo (beginning_of ground done).world played last
   pub grounded : Grounded table s.initial ground done
   pub reported : Puts s.before s.after (played_text played)
-  pub seen : s.first [] [] → s.saw (stores_in (beginning_of ground done).world) (events_played played)
+  pub seen : s.first.events [] [] → s.saw.events (stores_in (beginning_of ground done).world) (events_played played)
   pub stood : Stood p done last s.initial s.now
   pub few : events_in done ≤ most_events
   pub untouched : AllByRecursion FormatsNone done → KeepBytes (items_of done) s.initial s.now
   -- there are boards for the motes of every line that was done
   pub boards_enough : lacking (length s.initial) done ≡ None
 
--- what a watcher saw, if nothing is said of it
-abbrev pub unseen : Saw
-unseen = λ stores events. Unit {0}
-
--- what a watcher saw that was shown the events of a run from its beginning
+-- what a watcher saw that was shown the events of a run from its beginning, and no event that found no image to start
 abbrev pub seen_of : (from : Option World) → (played : List Played) → Saw
-seen_of from played = λ stores events. (stores ≡ stores_in from) × (events ≡ events_played played)
+seen_of from played = record {
+  events = λ stores events. (stores ≡ stores_in from) × (events ≡ events_played played);
+  ended = λ event. ⊥;
+}
 
 -- A script was played so far, what was written is a prefix of what is reported of that, and P holds of how far it was played and
 -- of what was written.
@@ -222,6 +221,10 @@ pub record ReportedBefore {table : List Row} {script : Script} (line : ℕ) (c :
   pub more : List ℕ
   pub reported : text ≡ report_of_lines lines c ++ more
 
+-- The next item is an event, which finds no image to start, and a watcher was shown that.
+abbrev pub NoImageShown : {table : List Row} {script : Script} → Span → Progress table script → Type 0
+NoImageShown s c = NoImageThere c s.initial s.now × EndShown s.saw c.left
+
 -- Why playing a script stops at the line of this number, and how far it came: W holds of that.
 abbrev pub StopsAtText : (table : List Row) → Stop → (script : Script) → (W : Progress table script → Type 0)
     → (number : ℕ) → Span → (write_failed : Type 0) → Type 0
@@ -246,7 +249,7 @@ StopsAtText table (NoBoard motes boards) script W number s failed =
     × BoardsStand c.last s.initial s.now × (lacking (length s.initial) c.done ≡ None) × W c)
 StopsAtText table NoImage script W number s failed =
     PlayedUpTo table script s.initial s.before s.after (λ c. ((line : Line) × (more : List Line) × (c.rest ≡ line ∷ more))
-    × UsesBoards c.done × NoImageThere c s.initial s.now
+    × UsesBoards c.done × NoImageShown s c
     × ((more : List ℕ) → ReportedBefore number c (played_text c.played ++ more)) × W c)
 StopsAtText table NotAVolume script W number s failed =
     PlayedUpTo table script s.initial s.before s.after (λ c. NoVolumeThere c s.initial s.now
@@ -254,7 +257,7 @@ StopsAtText table NotAVolume script W number s failed =
 
 -- what the boards keep, and that a watcher was shown the events that were played
 abbrev pub IsLeft : {table : List Row} {script : Script} → Span → Progress table script → Type 0
-IsLeft s c = Untouched c s.initial s.now × (s.first [] [] → IsSeen s.saw c)
+IsLeft s c = Untouched c s.initial s.now × (s.first.events [] [] → IsSeen s.saw c)
 
 -- the same with this condition
 abbrev pub StopsThere : (table : List Row) → Stop → (script : Script) → (number : ℕ) → Span → (write_failed : Type 0) → Type 0
@@ -354,4 +357,4 @@ pub record ScriptReplayed (table : List Row) (status : Status) (script : Script)
   pub boards : BoardsLeft status came s.initial s.now
   pub left : IsLeft s came
   pub caused : IsCaused status ending failed.read failed.write (BoardStopped (motes_in came.done) s.initial s.now)
-      (NoVolumeThere came s.initial s.now) ((UsesBoards came.done) × NoImageThere came s.initial s.now)
+      (NoVolumeThere came s.initial s.now) ((UsesBoards came.done) × NoImageShown s came)

@@ -1,5 +1,6 @@
 -- What a watcher of a replay is shown (docs/PROMISES.md, "The report and what it tells").
-use Rattle.std.specs.Prelude.{◌≡◌, ℕ, ◌<◌, ◌≤◌, Bool, List, [], ◌++◌, length, map, replicate, slice_get, Option, Some, None, Ok}
+use Rattle.std.specs.Prelude.{◌≡◌, ℕ, ◌<◌, ◌≤◌, Bool, List, [], ◌∷◌, ◌++◌, length, map, replicate, slice_get, Option}
+use Rattle.std.specs.Prelude.{Some, None, Ok}
 use Rattle.std.specs.List.{filter}
 use Rattle.dg_nor.specs.Device.{Device}
 use Rattle.dg_base.specs.declared.events.Cut.{Cut as PowerCut}
@@ -8,7 +9,7 @@ use Rattle.dg_object.specs.Object.{Row}
 use Rattle.dg_volume.specs.Shaped.{IsShaped}
 use Rattle.dg_volume.specs.Stands.{Stands}
 use Rattle.dg_volume.specs.Store.{Store, fresh}
-use Rattle.dg_script.specs.Items.{Applies}
+use Rattle.dg_script.specs.Items.{Item, Declares, Applies}
 use Rattle.dg_rules.specs.Begins.{store_of}
 use Rattle.dg_rules.specs.Runs.{Played, Plays, ItemStep}
 use Rattle.dg_rules.specs.Sizes.{most_motes, most_events}
@@ -21,9 +22,16 @@ use Rattle.dg_world.specs.Deployments.{Deployment}
 use Rattle.dg_world.specs.Mounted.{StandFor}
 use Rattle.dg_replay.specs.Items.{is_event}
 
--- what a watcher saw: the stores with which the motes' chips began, none before the boards are used, and the events since then
-abbrev pub Saw : Type 1
-Saw = (stores : List Store) → (events : List Played) → Type 0
+-- What a watcher saw.
+pub record Saw : Type 1 where
+  -- the motes' chips began with these stores, none before the boards are used, and these are the events since then
+  pub events : (stores : List Store) → (events : List Played) → Type 0
+  -- this event found no image to start
+  pub ended : (event : Event) → Type 0
+
+-- nothing is said of what a watcher saw
+abbrev pub unseen : Saw
+unseen = record { events = λ stores events. Unit {0}; ended = λ event. Unit {0} }
 
 -- the events among what was played
 abbrev pub events_played : List Played → List Played
@@ -90,15 +98,22 @@ pub record IsEnding (w : World) (event : Event) (boards : List Device) : Type 0 
 
 -- what was seen before is what is seen after
 abbrev pub StaysSeen : (before after : Saw) → Type 0
-StaysSeen before after = (stores : List Store) (events : List Played) → before stores events → after stores events
+StaysSeen before after = (stores : List Store) (events : List Played) → before.events stores events
+    → after.events stores events
 
 -- a watcher was shown what was played from this world on
 abbrev pub Shows : (before after : Saw) → World → List Played → Type 0
-Shows before after w played = (stores : List Store) (events : List Played) → LeadTo stores events w → before stores events
-    → after stores (events ++ events_played played)
+Shows before after w played = (stores : List Store) (events : List Played) → LeadTo stores events w
+    → before.events stores events → after.events stores (events ++ events_played played)
+
+-- the next of these items is an event, of which a watcher was shown that it found no image to start
+abbrev pub EndShown : Saw → (left : List Item) → Type 0
+EndShown saw [] = ⊥
+EndShown saw (Declares row ∷ more) = ⊥
+EndShown saw (Applies step reported ∷ more) = saw.ended step.event
 
 -- if what was played from the beginning of one run was seen, what was played from the beginning of another is seen too
 abbrev pub GoesOnSeen : (before after : Saw) → (from : Option World) → (played : List Played) → (on : Option World)
     → (now : List Played) → Type 0
-GoesOnSeen before after from played on now = before (stores_in from) (events_played played)
-    → after (stores_in on) (events_played now)
+GoesOnSeen before after from played on now = before.events (stores_in from) (events_played played)
+    → after.events (stores_in on) (events_played now)

@@ -4,7 +4,7 @@ ghost use Rattle.dg_mote.specs.Sizes.{BuffersFit, ValuesAreSmall};
 ghost use Rattle.dg_outside.specs.Outside.{Outside, with_input, with_output, with_boards};
 ghost use Rattle.dg_object.specs.Object.{Row};
 ghost use Rattle.dg_replay.specs.Done.{ReplayDone};
-ghost use Rattle.dg_replay.specs.Replayed.{Replayed, IsSeen};
+ghost use Rattle.dg_replay.specs.Replayed.{Replayed, IsSeen, IsEndSeen};
 
 use crate::ends::{end_at_stop, end_script};
 use crate::finish::end_with;
@@ -37,11 +37,12 @@ pub fn replay<S: Source, K: Sink, N: Nor, W: Watcher<N>>(
     ensures done { (rest : Outside) → ReplayDone result
         (with_boards (map N.device boards.old.items) (with_output (K.Sink, out.old) (with_input (S.Source, input.old) rest)))
         (with_boards (map N.device boards.new.items) (with_output (K.Sink, out.new) (with_input (S.Source, input.new) rest))) }
-    ensures seen { (rest : Outside) (table : List Row) → W.saw watcher.old (map N.device boards.old.items) [] []
+    ensures seen { (rest : Outside) (table : List Row) → (W.saw watcher.old (map N.device boards.old.items)).events [] []
         → (x : Replayed table result
         (with_boards (map N.device boards.old.items) (with_output (K.Sink, out.old) (with_input (S.Source, input.old) rest)))
         (with_boards (map N.device boards.new.items) (with_output (K.Sink, out.new) (with_input (S.Source, input.new) rest))))
-        × IsSeen (W.saw watcher.new (map N.device boards.old.items)) x.came }
+        × IsSeen (W.saw watcher.new (map N.device boards.old.items)) x.came
+        × IsEndSeen result (W.saw watcher.new (map N.device boards.old.items)) x.came }
     // The arrays of bytes that are alive at once in a mote's call have no more than 256 bytes in all. The value of a mote holds
     // no array of bytes except the outbox and its sets.
     ensures buffers { BuffersFit × ValuesAreSmall }

@@ -8,7 +8,8 @@ ghost use Rattle.dg_replay.specs.Items.{beginning_of};
 ghost use Rattle.dg_replay.specs.Ending.{ending_from};
 ghost use Rattle.dg_replay.specs.Near.{behind_lines};
 ghost use Rattle.dg_replay.specs.Playing.{Ready};
-ghost use Rattle.dg_replay.specs.Replaying.{StopEnds, Reached, ScriptReplayed, unseen, seen_of};
+ghost use Rattle.dg_replay.specs.Replaying.{StopEnds, Reached, ScriptReplayed, seen_of};
+ghost use Rattle.dg_replay.specs.Shown.{unseen};
 ghost use Rattle.dg_replay.specs.Stages.{span, failures};
 ghost use Rattle.dg_replay.specs.inner.Words.{bytes_taken};
 

@@ -50,7 +50,8 @@ fn play_motes<N: Nor, W: Watcher<N>>(
     ensures counted { OnOk result (motes ≤ length boards.now.items) }
     ensures missing { (stop : Stop) → result ≡ Err stop → (stop ≡ Stop.NoBoard motes (length boards.now.items))
         × (length boards.now.items < motes) }
-    ensures begun { (initial : List Device) → W.saw watcher.old initial [] [] → W.saw watcher.new initial [] [] }
+    ensures begun { (initial : List Device) → (W.saw watcher.old initial).events [] []
+        → (W.saw watcher.new initial).events [] [] }
     ensures unshown { (initial : List Device)
         → OnErr result (StaysSeen (W.saw watcher.old initial) (W.saw watcher.new initial)) }
 {

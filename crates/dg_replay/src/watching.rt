@@ -1,11 +1,11 @@
 //! Who watches a replay.
-ghost use Rattle.std.specs.Prelude.{⊤, List, [], ◌∷◌, ◌++◌, map};
+ghost use Rattle.std.specs.Prelude.{List, [], ◌∷◌, ◌++◌, map};
 ghost use Rattle.dg_nor.specs.Device.{Device};
 ghost use Rattle.dg_rules.specs.Runs.{Played};
 ghost use Rattle.dg_rules.specs.World.{World as RuleWorld};
 ghost use Rattle.dg_volume.specs.Store.{Store};
 ghost use Rattle.dg_world.specs.Deployments.{deployed};
-ghost use Rattle.dg_replay.specs.Shown.{IsPlaced, LeadTo, IsApplied, IsEnding};
+ghost use Rattle.dg_replay.specs.Shown.{Saw, IsPlaced, LeadTo, IsApplied, IsEnding};
 
 use dg_nor::Nor;
 use dg_rules::Event;
@@ -15,24 +15,24 @@ use dg_world::World;
 /// Watches a replay: it is shown each event after the boards, and changes nothing of the replay. A method that does nothing
 /// costs nothing.
 pub trait Watcher<N: Nor> {
-    // The replay began with these boards. The motes' chips began with these stores, none before the boards are used, and the
-    // watcher was shown exactly these events since then.
-    ghost saw: { Self → (initial : List Device) → (stores : List Store) → (events : List Played) → Type 0 };
+    // What the watcher saw of a replay that began with these boards. It was shown exactly these events, since the motes' chips
+    // began with these stores (`events`), and that this event found no image to start (`ended`).
+    ghost saw: { Self → (initial : List Device) → Saw };
 
     /// The script has this many motes.
     fn begun(&mut self, motes: u8)
-        ensures { (initial : List Device) → saw self.old initial [] [] → saw self.new initial [] [] };
+        ensures { (initial : List Device) → (saw self.old initial).events [] [] → (saw self.new initial).events [] [] };
 
     /// The boards of the motes are used from now on: they were formatted with this many commits counted as spent, or mounted as
     /// they are.
     fn placed(&mut self, motes: u8, used: Option<u32>, boards: &[N])
         ensures { (initial : List Device) (stores : List Store) → IsPlaced motes used initial (map N.device boards.now) stores
-            → saw self.old initial [] [] → saw self.new initial stores [] };
+            → (saw self.old initial).events [] [] → (saw self.new initial).events stores [] };
 
     /// An image was not declared, since its version was declared with another name or content. A line reports this.
     fn taken(&mut self)
-        ensures { (initial : List Device) (stores : List Store) (events : List Played) → saw self.old initial stores events
-            → saw self.new initial stores events };
+        ensures { (initial : List Device) (stores : List Store) (events : List Played)
+            → (saw self.old initial).events stores events → (saw self.new initial).events stores events };
 
     /// An event was applied, also if it was refused or cut, and these lines are reported of it. A frame that it sent is reported
     /// only if `reported` is true: the frames of rounds and sweeps are not.
@@ -47,13 +47,14 @@ pub trait Watcher<N: Nor> {
         ensures { (initial : List Device) (stores : List Store) (events : List Played) (p : Played)
             → LeadTo stores events p.before
             → IsApplied p event.now reported (deployed world.now (map N.device boards.now) reports.now)
-            → saw self.old initial stores events → saw self.new initial stores (events ++ p ∷ []) };
+            → (saw self.old initial).events stores events → (saw self.new initial).events stores (events ++ p ∷ []) };
 
     /// An event found no image to start, and ends the replay. It is not one of those that were applied.
     fn ended(&mut self, event: &Event, boards: &[N])
-        ensures { (initial : List Device) (stores : List Store) (events : List Played) (w : RuleWorld) → LeadTo stores events w
-            → IsEnding w event.now (map N.device boards.now) → saw self.old initial stores events
-            → saw self.new initial stores events };
+        ensures seen { (initial : List Device) (stores : List Store) (events : List Played) (w : RuleWorld)
+            → LeadTo stores events w → IsEnding w event.now (map N.device boards.now)
+            → (saw self.old initial).events stores events → (saw self.new initial).events stores events }
+        ensures ended { (initial : List Device) → (saw self.new initial).ended event.now };
 }
 
 /// A watcher that does nothing.
@@ -61,7 +62,9 @@ pub trait Watcher<N: Nor> {
 pub struct Unwatched;
 
 impl<N: Nor> Watcher<N> for Unwatched {
-    ghost saw = { λ w initial stores events. ⊤ };
+    ghost use Rattle.dg_replay.specs.Shown.{unseen};
+
+    ghost saw = { λ w initial. unseen };
 
     #[inline(always)]
     fn begun(&mut self, _motes: u8) {}

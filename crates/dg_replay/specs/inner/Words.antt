@@ -7,7 +7,6 @@ use Rattle.dg_rules.specs.World.{World, first_world}
 use Rattle.dg_replay.specs.Items.{Beginning}
 use Rattle.dg_replay.specs.Stages.{BytesTaken}
 use Rattle.std.specs.Prelude.{nat_lt, Bool, if◌then◌else◌}
-use Rattle.std.specs.Str.Lines.{lines}
 use Rattle.dg_script.specs.Script.{Script}
 use Rattle.dg_rules.specs.Sizes.{most_events}
 use Rattle.dg_replay.specs.Ending.{Ending, events_in, by_fault, TooManyEvents}
@@ -16,7 +15,7 @@ use Rattle.dg_object.specs.Object.{Row}
 use Rattle.dg_script.specs.Items.{items_of}
 use Rattle.dg_replay.specs.Replayed.{Progress, played_text}
 use Rattle.dg_nor.specs.Device.{Device}
-use Rattle.std.specs.Prelude.{◌≡◌, ◌⊎◌, ◌+◌}
+use Rattle.std.specs.Prelude.{◌≡◌, ◌⊎◌}
 use Rattle.dg_base.specs.declared.answers.Status.{Status}
 use Rattle.dg_base.specs.declared.answers.Status.TheVariants.{Done, Memory}
 use Rattle.dg_base.specs.declared.answers.Status.TheVariants.{NoImage}
