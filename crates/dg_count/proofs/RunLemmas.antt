@@ -12,19 +12,21 @@ use Rattle.dg_rules.specs.Sizes.{most_motes, most_events}
 use Rattle.dg_rules.specs.Runs.{Played, Plays, ItemStep}
 use Rattle.dg_script.specs.Items.{Item, Declares, Applies}
 use Rattle.dg_replay.specs.Items.{beginning_of, is_event, events_among}
-use Rattle.dg_replay.specs.Replayed.{item_played, Progress, IsSeen}
+use Rattle.dg_replay.specs.Replayed.{item_played, Progress, IsSeen, IsEndSeen}
+use Rattle.dg_base.specs.declared.answers.Status.{Status}
 use Rattle.dg_base.specs.declared.events.Event.{Event}
 use Rattle.dg_world.specs.Deployments.{Deployment}
 use Rattle.dg_world.specs.declared.world.WorldFault.{WorldFault}
 use Rattle.dg_world.specs.declared.world.WorldFault.TheVariants.{TooMany}
-use Rattle.dg_replay.specs.Shown.{stores_in, events_played, LeadTo, IsApplied, IsPlaced}
+use Rattle.dg_replay.specs.Shown.{EndShown, stores_in, events_played, LeadTo, IsApplied, IsPlaced}
 use Rattle.dg_events.specs.Noted.{IsEventPlayed}
 use Rattle.dg_events.specs.Told.{Happened, happening}
 use Rattle.dg_events.specs.Counts.{passes, at, count_at, count_all, has_kind, is_refused, is_cut, is_start_by_power, is_start_by_order, is_cut_start_by_power, is_start_of}
 use Rattle.dg_events.specs.Counters.{as_u64, told_count, AreCounts, CountsAre, HasCounted}
 use Rattle.dg_events.specs.Uptimes.{is_on, on_from, ends_on, ms_of, IsBefore, HasTimed}
 use Rattle.dg_events.specs.declared.uptime.Uptimes.{Uptimes}
-use Rattle.dg_count.specs.Runs.{CountsEvent, IsSeenBy, HasSeen, CountedRun, CountedReplay}
+use Rattle.dg_count.specs.Ended.{event_place, IsPlaceOfNext}
+use Rattle.dg_count.specs.Runs.{CountsEvent, IsSeenBy, CountedRun, CountedReplay, sight_of}
 use Rattle.dg_events.specs.declared.event_counts.EventCounts.{EventCounts}
 use Rattle.dg_events.specs.declared.event_counter.EventCounter.{EventCounter}
 use Rattle.dg_events.specs.declared.frame_counter.FrameCounter.{FrameCounter}
@@ -33,7 +35,8 @@ use Rattle.dg_moments.specs.Moments.{event_moment, store_after, is_loaded}
 use Rattle.dg_moments.specs.Looking.{ReadsBoards}
 use Rattle.dg_moments.specs.Telling.{HasNoted, BringsWholes, PlacesWholes}
 use Rattle.dg_count.proofs.GivenLemmas.{given_tells}
-use Rattle.dg_rules.specs.Events.{mote_of}
+use Rattle.dg_rules.specs.Events.{mote_of, dt_of}
+use Rattle.dg_events.specs.Kinds.{event_number}
 use Rattle.dg_rules.specs.World.{store_at}
 use Rattle.dg_volume.specs.Stands.{Stands}
 use Rattle.dg_world.specs.Applying.{step_of}
@@ -42,6 +45,7 @@ use Rattle.dg_replay.proofs.ItemLemmas.{step_counts}
 use Rattle.dg_moments.specs.declared.wholes.Wholes.{Wholes}
 use Rattle.dg_world.specs.declared.world.World.{World as CodeWorld}
 use Rattle.dg_count.specs.declared.counter.Counter.{Counter}
+use Rattle.dg_count.specs.declared.place.EventPlace.{EventPlace}
 use Rattle.dg_nor.specs.Device.{Device}
 use Rattle.dg_object.specs.Object.{Row}
 use Rattle.dg_script.specs.Script.{Script}
@@ -140,6 +144,7 @@ pub run_counted : (c : EventCounter) (played : List Played) → events_among (ma
 run_counted c played most is = record {
   counted = record { all = is.all ∙ ap as_u64 (all_events played); motes = is.motes; each = λ m x there. mote_all m played x (is.each m x there) };
   few = λ m test. few m test played most;
+  few_all = few_all played most;
   exact_all = below_end (count_all played) most_events (2 ^ 64) (few_all played most) (omega arith);
   exact = λ m test. below_end (count_at m test played) most_events (2 ^ 64) (few m test played most) (omega arith);
 }
@@ -356,16 +361,29 @@ seen_event {before = before} {after = after} {times = times} {later = later} {fr
           untold = λ image v lt known none. seen.told.untold e lines p is (mote_of e) image v known none;
         }) (both.0, seen.noted)
 
--- a replay was seen
-pub replay_seen : {table : List Row} {script : Script} (c : Counter) (initial : List Device) (came : Progress table script) → events_among (map item_played came.played) ≤ most_events
-    → IsSeen (λ stores events. HasSeen c initial stores events) came → CountedReplay c came
-replay_seen c initial came most both = record {
+-- the event that ended a replay
+pub place_is : (p : EventPlace) (e : Event) → p.mote ≡ mote_of e → p.dt ≡ dt_of e → p.kind ≡ event_number e → p ≡ event_place e
+place_is p e mote dt kind =
+    ap (λ (n : ℕ). record { mote = n; dt = p.dt; kind = p.kind }) mote ∙ ap (λ (n : ℕ). record { mote = mote_of e; dt = n; kind = p.kind }) dt
+    ∙ ap (λ (n : ℕ). record { mote = mote_of e; dt = dt_of e; kind = n }) kind
+
+next_place : (was now : Counter) (initial : List Device) (left : List Item) → now.ended ≡ was.ended → EndShown (sight_of was initial) left
+    → IsPlaceOfNext left now.ended
+next_place was now initial [] same shown = absurd shown
+next_place was now initial (Declares row ∷ left) same shown = absurd shown
+next_place was now initial (Applies step reported ∷ left) same shown = same ∙ shown
+
+-- a replay was seen, and nothing else was noted of its end
+pub replay_seen : {table : List Row} {script : Script} (ran : Status) (was c : Counter) (initial : List Device) (came : Progress table script) → events_among (map item_played came.played) ≤ most_events
+    → IsSeen (sight_of c initial) came → IsEndSeen ran (sight_of was initial) came → c.ended ≡ was.ended → CountedReplay ran c came
+replay_seen ran was c initial came most both end same = record {
   events = run_counted c.events came.played most seen.counted;
   times = seen.timed;
   frames = seen.framed;
   wholes = seen.noted;
   motes = seen.motes;
   few = omega (arith, seen.motes, seen.few);
+  ended = λ is. next_place was c initial came.left same (end is);
 }
   where
     seen : IsSeenBy c.events c.times c.frames c.wholes c.placed (stores_in (beginning_of came.ground came.done).world) (events_played came.played)

@@ -1,14 +1,16 @@
 -- The counts of a whole run.
-use Rattle.std.specs.Prelude.{◌≡◌, ℕ, ◌≤◌, Bool, List, [], ◌∷◌, ◌++◌, length}
+use Rattle.std.specs.Prelude.{◌≡◌, ℕ, ◌≤◌, Bool, List, [], ◌∷◌, ◌++◌, length, Some}
 use Rattle.dg_volume.specs.Store.{Store}
 use Rattle.dg_object.specs.Object.{Row}
 use Rattle.dg_rules.specs.Sizes.{most_motes, most_events}
 use Rattle.dg_rules.specs.Runs.{Played}
+use Rattle.dg_base.specs.declared.answers.Status.{Status}
+use Rattle.dg_base.specs.declared.answers.Status.TheVariants.{NoImage}
 use Rattle.dg_base.specs.declared.events.Event.{Event}
 use Rattle.dg_script.specs.Script.{Script}
 use Rattle.dg_script.specs.declared.report.Report.{Report}
 use Rattle.dg_replay.specs.Items.{beginning_of}
-use Rattle.dg_replay.specs.Shown.{stores_in, events_played}
+use Rattle.dg_replay.specs.Shown.{Saw, stores_in, events_played}
 use Rattle.dg_replay.specs.Replayed.{Progress}
 use Rattle.dg_events.specs.Noted.{IsEventPlayed}
 use Rattle.dg_events.specs.Told.{Happened}
@@ -27,6 +29,7 @@ use Rattle.dg_moments.specs.Wholes.{HasWholes}
 use Rattle.dg_moments.specs.Telling.{BringsWholes, LinesTell}
 use Rattle.dg_moments.specs.declared.wholes.Wholes.{Wholes}
 use Rattle.dg_count.specs.declared.counter.Counter.{Counter}
+use Rattle.dg_count.specs.Ended.{event_place, IsPlaceOfNext}
 
 -- this event, of which these lines are reported, was counted after those that were played before it
 abbrev pub CountsEvent : (before after : EventCounter) → Event → List Report → Type 0
@@ -66,18 +69,29 @@ abbrev pub HasSeen : Counter → (initial : List Device) → (stores : List Stor
 HasSeen c initial stores events = ReadsBoards c.wholes.given.items initial
     × IsSeenBy c.events c.times c.frames c.wholes c.placed stores events
 
+-- what a counter saw: these events, and that this one found no image to start
+abbrev pub sight_of : Counter → (initial : List Device) → Saw
+sight_of c initial = record {
+  events = λ stores events. HasSeen c initial stores events;
+  ended = λ event. c.ended ≡ Some (event_place event);
+}
+
 -- Each event that was played was counted once, and no count wrapped.
 pub record CountedRun (c : EventCounter) (played : List Played) : Type 0 where
   pub counted : HasCounted c played
   pub few : (m : ℕ) (test : Happened → Bool) → count_at m test played ≤ most_events
+  pub few_all : count_all played ≤ most_events
   pub exact : (m : ℕ) (test : Happened → Bool) → told_count m test played ≡ count_at m test played
   pub exact_all : as_u64 (count_all played) ≡ count_all played
 
 -- So was each event that a replay played, at as many motes as there are where its run begins, none before their boards are used.
-pub record CountedReplay {table : List Row} {script : Script} (c : Counter) (came : Progress table script) : Type 0 where
+-- If it ended with NoImage, the event that found no image to start was noted.
+pub record CountedReplay {table : List Row} {script : Script} (ran : Status) (c : Counter) (came : Progress table script) : Type
+    0 where
   pub events : CountedRun c.events came.played
   pub times : HasTimed c.times (events_played came.played)
   pub frames : HasFrames c.frames (events_played came.played)
   pub wholes : HasWholes c.wholes (stores_in (beginning_of came.ground came.done).world) (events_played came.played)
   pub motes : c.placed ≡ length (stores_in (beginning_of came.ground came.done).world)
   pub few : c.placed ≤ most_motes
+  pub ended : ran ≡ NoImage → IsPlaceOfNext came.left c.ended

@@ -36,7 +36,7 @@ pub fn replay_counted<S: Source, K: Sink, N: Nor>(
         (with_boards (map (metered_device N.device) boards.old.items)
         (with_output (K.Sink, out.old) (with_input (S.Source, input.old) rest)))
         (with_boards (map (metered_device N.device) boards.new.items)
-        (with_output (K.Sink, out.new) (with_input (S.Source, input.new) rest)))) × CountedReplay counter.new x.came }
+        (with_output (K.Sink, out.new) (with_input (S.Source, input.new) rest)))) × CountedReplay result counter.new x.came }
 {
     let status = replay(alloc, input, out, boards, counter);
     counter.settle(boards);

@@ -2,7 +2,6 @@
 ghost use Rattle.dg_events.specs.FrameCounters.{KeepsFrames};
 
 use crate::frames::FrameIndex;
-use crate::place::EventPlace;
 use dg_base::MOST_MOTES;
 use dg_cost_text::{Moment, Stamp};
 use dg_events::FrameCounter;
@@ -38,8 +37,6 @@ pub struct Costs {
     pub placed: bool,
     /// Rounds or sweeps were played.
     pub scheduled: bool,
-    /// The event that found no image to start, and ended the replay.
-    pub ended: Option<EventPlace>,
     /// Memory ran out: none of these counts is valid.
     pub failed: bool,
 }
@@ -59,7 +56,6 @@ impl Costs {
             count: 0,
             placed: false,
             scheduled: false,
-            ended: None,
             failed: false,
         }
     }

@@ -1,5 +1,5 @@
 //! What is counted of a replay.
-ghost use Rattle.std.specs.Prelude.{◌≡◌, true, false, List, [], length, IfNone};
+ghost use Rattle.std.specs.Prelude.{◌≡◌, ◌<◌, ◌^◌, true, false, List, [], length, IfSome};
 ghost use Rattle.dg_volume.specs.Store.{Store};
 ghost use Rattle.dg_rules.specs.Runs.{Played};
 ghost use Rattle.dg_nor.specs.Device.{Device};
@@ -7,7 +7,7 @@ ghost use Rattle.dg_moments.specs.Looking.{ReadsBoards};
 ghost use Rattle.dg_moments.specs.Moments.{is_loaded, newest_at};
 ghost use Rattle.dg_moments.specs.Wholes.{KnowsImage};
 ghost use Rattle.dg_count.specs.Runs.{HasSeen};
-ghost use Rattle.dg_count.specs.Ended.{counts_at};
+ghost use Rattle.dg_count.specs.Ended.{counts_at, times_until, all_until};
 
 use crate::costs::Costs;
 use crate::place::EventPlace;
@@ -35,6 +35,8 @@ pub struct Counter {
     pub wholes: Wholes,
     /// What they cost.
     pub costs: Costs,
+    /// The event that found no image to start, and ended the replay.
+    pub ended: Option<EventPlace>,
 }
 
 impl Counter {
@@ -50,6 +52,7 @@ impl Counter {
             frames: FrameCounter::new(alloc),
             wholes: Wholes::new(alloc, given),
             costs: Costs::new(alloc, timed),
+            ended: None,
         }
     }
 
@@ -63,8 +66,9 @@ impl Counter {
 
     /// The replay ended on these boards. What was counted of events, times and frames stays counted.
     pub fn settle<N: Nor>(&mut self, boards: &[Metered<N>])
-        ensures { (initial : List Device) (stores : List Store) (played : List Played) → HasSeen self.old initial stores played
-            → HasSeen self.new initial stores played }
+        ensures seen { (initial : List Device) (stores : List Store) (played : List Played)
+            → HasSeen self.old initial stores played → HasSeen self.new initial stores played }
+        ensures ended { self.new.ended ≡ self.old.ended }
     {
         self.costs.settle_operations(boards);
         self.costs.settle_fills(&mut self.frames);
@@ -99,7 +103,8 @@ impl Counter {
 
     /// The times up to the end, with this event if it found no image to start.
     pub fn times_until(&self, ended: Option<EventPlace>) -> Uptimes
-        ensures { IfNone ended (result ≡ self.now.times) }
+        ensures times { result ≡ times_until ended self.now.times }
+        ensures fits { IfSome ended (λ place. place.dt < 2 ^ 32) }
     {
         match ended {
             Some(ended) => self.times.ended_at(ended.mote, ended.dt),
@@ -109,8 +114,8 @@ impl Counter {
 
     /// The last event and its moment, which is this event if it found no image to start.
     pub fn last(&self, ended: Option<EventPlace>) -> Moment
-        ensures events { IfNone ended (result.event ≡ self.now.events.all) }
-        ensures ms { IfNone ended (result.ms ≡ self.now.times.ms) }
+        ensures events { result.event ≡ all_until ended self.now.events.all }
+        ensures ms { result.ms ≡ (times_until ended self.now.times).ms }
     {
         match ended {
             Some(_) => Moment {

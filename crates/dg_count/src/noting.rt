@@ -248,7 +248,6 @@ impl Costs {
     #[cold]
     #[inline(never)]
     pub fn note_end<N: Nor>(&mut self, place: EventPlace, boards: &[Metered<N>]) {
-        self.ended = Some(place);
         let EventPlace { mote, kind, .. } = place;
         if let Some(board) = boards.get(usize::from(mote)) {
             self.note_work(mote, kind, board.tally(), false, &[]);

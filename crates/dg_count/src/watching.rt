@@ -2,7 +2,7 @@
 ghost use Rattle.std.specs.Prelude.{◌≡◌, false, map};
 ghost use Rattle.dg_meter.specs.Meters.{metered_device};
 ghost use Rattle.dg_events.specs.Frames.{is_hearing};
-ghost use Rattle.dg_count.specs.Runs.{CountsEvent, HasSeen, NotesWholes, TimesEvent};
+ghost use Rattle.dg_count.specs.Runs.{CountsEvent, NotesWholes, TimesEvent, sight_of};
 ghost use Rattle.dg_count.specs.Shown.{CountsFrames};
 
 use crate::counter::Counter;
@@ -60,7 +60,7 @@ impl Counter {
 }
 
 impl<N: Nor> Watcher<Metered<N>> for Counter {
-    ghost saw = { λ counter initial stores events. HasSeen counter initial stores events };
+    ghost saw = { λ counter initial. sight_of counter initial };
 
     fn begun(&mut self, motes: u8) {
         self.costs.count = motes;
@@ -113,6 +113,8 @@ impl<N: Nor> Watcher<Metered<N>> for Counter {
 
     #[inline(always)]
     fn ended(&mut self, event: &Event, boards: &[Metered<N>]) {
-        self.costs.note_end(place_of(event), boards);
+        let place = place_of(event);
+        self.ended = Some(place);
+        self.costs.note_end(place, boards);
     }
 }

@@ -72,6 +72,12 @@ with_time t count mote dt told = record {
   motes = if nat_lt mote count then with_outcome_at told mote t.motes (as_u64 (t.ms + dt)) else t.motes;
 }
 
+-- after an event that came `dt` milliseconds later and left this mote off
+abbrev pub with_end : Uptimes → (mote dt : ℕ) → Uptimes
+with_end t mote dt =
+    let ms = min (t.ms + dt) (2 ^ 64 - 1) in
+    record { ms = ms; motes = slice_set t.motes mote (with_stop (slice_index_or t.motes mote never_on) ms) }
+
 -- The mote is on at the end of what was played, or off, and was on for so long.
 pub record IsUptime (mote ms : ℕ) (played : List Played) (u : Uptime) : Type 0 where
   pub on : u.on ≡ ends_on mote played

@@ -6,7 +6,7 @@ ghost use Rattle.dg_rules.specs.Runs.{Played};
 ghost use Rattle.dg_events.specs.Noted.{IsEventPlayed};
 ghost use Rattle.dg_events.specs.Told.{nothing_told, told_by};
 ghost use Rattle.dg_events.specs.Uptimes.{never_on, up_until, with_start, with_stop, with_outcome, with_outcome_at};
-ghost use Rattle.dg_events.specs.Uptimes.{with_time, IsBefore, HasTimed};
+ghost use Rattle.dg_events.specs.Uptimes.{with_time, with_end, IsBefore, HasTimed};
 
 use crate::told::{Told, told_by};
 use dg_base::MOST_MOTES;
@@ -147,7 +147,10 @@ impl Uptimes {
     }
 
     /// The times after an event that came `dt` milliseconds later and left a mote off.
-    pub fn ended_at(&self, mote: u8, dt: u32) -> Uptimes {
+    pub fn ended_at(&self, mote: u8, dt: u32) -> Uptimes
+        ensures fits { dt < 2 ^ 32 }
+        ensures ended { result ≡ with_end self.now mote dt }
+    {
         let ms = self.ms.saturating_add(u64::from(dt));
         let mut motes = self.motes;
         let index = usize::from(mote);
