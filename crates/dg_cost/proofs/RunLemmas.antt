@@ -1,11 +1,11 @@
 -- The rows of a counter are those of the run that it counted.
-use Rattle.std.proofs.Common.{◌≡◌, ℕ, ◌+◌, ◌*◌, ◌-◌, ◌%◌, ◌^◌, ◌<◌, ◌≤◌, ◌==◌, Bool, true, false, cond, List, [], ◌∷◌, length, get_or, set, refl, sym, ap, subst, ◌∙◌, arith}
+use Rattle.std.proofs.Common.{◌≡◌, ℕ, ◌+◌, ◌*◌, ◌-◌, ◌%◌, ◌^◌, ◌<◌, ◌≤◌, ◌==◌, Bool, true, false, cond, List, [], ◌∷◌, length, get_or, set, min, refl, sym, ap, subst, ◌∙◌, arith}
 use Rattle.std.proofs.Common.{zero, suc, Option, Some, None, inl, inr}
-use Rattle.std.specs.Prelude.{slice_get, slice_index}
+use Rattle.std.specs.Prelude.{IfSome, slice_get, slice_index}
 use Rattle.std.proofs.lemmas.Nat.{mod-mul-add}
-use Rattle.std.proofs.lemmas.Bool.{cases_lt, both_ways}
+use Rattle.std.proofs.lemmas.Bool.{cases_lt, cases_eq, eq-eqb, ne_eqb, both_ways}
 use Rattle.std.proofs.lemmas.List.Sums.{sum_by-cons}
-use Rattle.std.proofs.lemmas.List.{get_or_past}
+use Rattle.std.proofs.lemmas.List.{get_or_past, get_or-set_same, get_or-set_other}
 use Rattle.std.proofs.lemmas.List.FromFn.{fill_by_all, get_or-map-range_with_len, length-map-range_with_len}
 use Rattle.dg_object.specs.Object.{Row}
 use Rattle.dg_script.specs.Script.{Script}
@@ -19,10 +19,12 @@ use Rattle.dg_outside.specs.Outside.{Outside}
 use Rattle.dg_replay.specs.Done.{ReplayDone}
 use Rattle.dg_replay.specs.Replayed.{Progress, Replayed}
 use Rattle.dg_base.specs.declared.answers.Status.{Status}
+use Rattle.dg_base.specs.declared.answers.Status.TheVariants.{NoImage}
 use Rattle.dg_events.specs.Told.{Happened}
-use Rattle.dg_events.specs.Uptimes.{ms_before, ms_of, on_ms_of, never_on, IsUptime}
+use Rattle.dg_events.specs.Uptimes.{ms_before, ms_of, on_ms_of, ends_on, never_on, up_until, with_stop, with_end, IsUptime, HasTimed}
+use Rattle.dg_events.specs.declared.uptime.Uptimes.{Uptimes}
 use Rattle.dg_events.specs.declared.uptime.Uptime.{Uptime}
-use Rattle.dg_cost.specs.TimeRows.{rows_of_times, rows_of_power, rows_of_moment, time_rows}
+use Rattle.dg_cost.specs.TimeRows.{rows_of_times, rows_of_power, rows_of_moment, events_until, ms_until, time_rows}
 use Rattle.dg_events.specs.Counts.{count_all, count_at, has_kind, is_refused, is_cut, is_start_by_power, is_start_by_order, is_cut_start_by_power, is_start_of}
 use Rattle.dg_events.specs.Counters.{AreCounts, CountsAre, no_counts}
 use Rattle.dg_events.specs.Noted.{up, up_at}
@@ -30,7 +32,7 @@ use Rattle.dg_events.specs.declared.event_counts.EventCounts.{EventCounts}
 use Rattle.dg_events.specs.declared.event_counter.EventCounter.{EventCounter}
 use Rattle.dg_cost_text.specs.Table.{table_of_rows}
 use Rattle.dg_cost_text.specs.declared.rows.Counted.{Counted}
-use Rattle.dg_count.specs.Ended.{with_ended}
+use Rattle.dg_count.specs.Ended.{IsPlaceOfNext, with_ended, all_until, times_until}
 use Rattle.dg_events.specs.FrameCounters.{AreFrames, no_frames}
 use Rattle.dg_cost.proofs.FrameLemmas.{mote_frames}
 use Rattle.dg_cost.proofs.MomentRowLemmas.{newest_are}
@@ -39,8 +41,8 @@ use Rattle.dg_count.specs.declared.costs.Costs.{Costs}
 use Rattle.dg_count.specs.declared.counter.Counter.{Counter}
 use Rattle.dg_count.specs.declared.place.EventPlace.{EventPlace}
 use Rattle.dg_cost.specs.EventRows.{HasRows, HasCounts, HasEvents, rows_of_events, rows_of_starts, rows_of_images, counts_of, and_ended}
-use Rattle.dg_cost.specs.Counting.{IsCountOf}
-use Rattle.dg_cost.specs.Costs.{CountsRun, CountsReplay, IsText, CostWrote, Rehearsed, with_report}
+use Rattle.dg_cost.specs.Counting.{IsCountOf, ended_of}
+use Rattle.dg_cost.specs.Costs.{IsEndOf, CountsRun, CountsReplay, IsText, CostWrote, Rehearsed, with_report}
 use Rattle.dg_cost.specs.declared.call.Form.{Form}
 use Rattle.dg_cost.specs.declared.call.Form.TheVariants.{Table, Csv, Json, Timed}
 
@@ -137,11 +139,96 @@ mote_events e ended m played c table run are has =
 -- ---- times
 
 mote_times : (m ms : ℕ) (events : List Played) (u : Uptime) (table : List (List ℕ × ℕ)) → ms ≡ ms_of events → IsUptime m ms events u
-    → HasRows (rows_of_power u ms) table → HasRows (time_rows m events) table
+    → HasRows (rows_of_power u ms) table → HasRows (time_rows None m events) table
 mote_times m ms events u table all is has =
     subst (λ (rows : List (List ℕ × ℕ)). HasRows rows table)
     (ap (λ (n : ℕ). rows_of_times n (ms - n) u.on) is.until ∙ ap (λ (n : ℕ). rows_of_times (on_ms_of m events) (n - on_ms_of m events) u.on) all
     ∙ ap (λ (b : Bool). rows_of_times (on_ms_of m events) (ms_of events - on_ms_of m events) b) is.on) has
+
+-- ---- with the event that ended the run
+
+end_is : {table : List Row} {script : Script} (c : Counter) (ran : Status) (came : Progress table script) → (ran ≡ NoImage → IsPlaceOfNext came.left c.ended)
+    → IsEndOf ran came (ended_of c ran)
+end_is c NoImage came is = is refl
+end_is c _ came is = refl
+
+events_are : (ended : Option EventPlace) (all : ℕ) (played : List Played) → all ≡ count_all played → count_all played ≤ most_events
+    → all_until ended all ≡ events_until ended played
+events_are None all played is few = is
+events_are (Some place) all played is few = omega (arith, is, few)
+
+-- the moment of its end
+ms_are : (ended : Option EventPlace) (t : Uptimes) (events : List Played) → IfSome ended (λ place. place.dt < 2 ^ 32) → HasTimed t events
+    → (times_until ended t).ms ≡ ms_until ended events
+ms_are None t events fits timed = timed.ms
+ms_are (Some place) t events fits timed = let lt : place.dt < 2 ^ 32 = fits in omega (arith, lt, timed.ms, timed.early, timed.few)
+
+-- a clock goes on to that event
+passed_until : (u : Uptime) (ms dt : ℕ) → u.since ≤ ms → u.before ≤ cond u.on u.since ms → ms + dt < 2 ^ 64 → up_until u (ms + dt) ≡ up_until u ms + cond u.on dt 0
+passed_until u ms dt since before few = by u.on before
+  where
+    by : (b : Bool) → u.before ≤ cond b u.since ms
+        → cond b (min (u.before + (ms + dt - u.since)) (2 ^ 64 - 1)) u.before ≡ cond b (min (u.before + (ms - u.since)) (2 ^ 64 - 1)) u.before + cond b dt 0
+    by true h = omega (arith, since, h, few)
+    by false h = omega arith
+
+-- and its mote goes off
+power_until : (place : EventPlace) (m : ℕ) (t : Uptimes) → m < length t.motes
+    → let now = (with_end t place.mote place.dt).ms in let u = get_or t.motes m never_on in
+    rows_of_power (get_or (with_end t place.mote place.dt).motes m never_on) now ≡ rows_of_times (up_until u now) (now - up_until u now) (cond (place.mote == m) false u.on)
+power_until place m t lt = elim (cases_eq place.mote m) [
+  | inl same ↦
+      ap (λ (v : Uptime). rows_of_power v now)
+      (ap (λ (k : ℕ). get_or (set t.motes k (with_stop (get_or t.motes k never_on) now)) m never_on) same ∙ get_or-set_same t.motes m (with_stop u now) never_on lt)
+      ∙ ap (λ (b : Bool). rows_of_times (up_until u now) (now - up_until u now) (cond b false u.on)) (sym (eq-eqb place.mote m same))
+  | inr other ↦
+      ap (λ (v : Uptime). rows_of_power v now)
+      (get_or-set_other t.motes place.mote m (with_stop (get_or t.motes place.mote never_on) now) never_on (λ e. other (sym e)))
+      ∙ ap (λ (b : Bool). rows_of_times (up_until u now) (now - up_until u now) (cond b false u.on)) (sym (ne_eqb place.mote m other))
+]
+  where
+    now : ℕ
+    now = (with_end t place.mote place.dt).ms
+
+    u : Uptime
+    u = get_or t.motes m never_on
+
+mote_until : (ended : Option EventPlace) (m : ℕ) (t : Uptimes) (events : List Played) (table : List (List ℕ × ℕ)) → IfSome ended (λ place. place.dt < 2 ^ 32) → HasTimed t events
+    → m < length t.motes → HasRows (rows_of_power (get_or (times_until ended t).motes m never_on) (times_until ended t).ms) table → HasRows (time_rows ended m events) table
+mote_until None m t events table fits timed lt has =
+    mote_times m t.ms events (get_or t.motes m never_on) table timed.ms (timed.each m (get_or t.motes m never_on) (get_there t.motes m never_on lt)) has
+mote_until (Some place) m t events table fits timed lt has =
+    subst (λ (rows : List (List ℕ × ℕ)). HasRows rows table)
+    (power_until place m t lt ∙ ap (λ (x : ℕ). rows_of_times x (now - x) (cond off false u.on)) on_is ∙ ap (λ (x : ℕ). rows_of_times on (x - on) (cond off false u.on)) now_is
+    ∙ ap (λ (b : Bool). rows_of_times on (ms_of events + place.dt - on) (cond off false b)) is.on) has
+  where
+    now : ℕ
+    now = (with_end t place.mote place.dt).ms
+
+    off : Bool
+    off = place.mote == m
+
+    u : Uptime
+    u = get_or t.motes m never_on
+
+    is : IsUptime m t.ms events u
+    is = timed.each m u (get_there t.motes m never_on lt)
+
+    on : ℕ
+    on = on_ms_of m events + cond (ends_on m events) place.dt 0
+
+    few : t.ms + place.dt < 2 ^ 64
+    few = let small : place.dt < 2 ^ 32 = fits in omega (arith, small, timed.ms, timed.early, timed.few)
+
+    sum_is : now ≡ t.ms + place.dt
+    sum_is = omega (arith, few)
+
+    now_is : now ≡ ms_of events + place.dt
+    now_is = sum_is ∙ ap (λ (n : ℕ). n + place.dt) timed.ms
+
+    on_is : up_until u now ≡ on
+    on_is = ap (λ (n : ℕ). up_until u n) sum_is ∙ passed_until u t.ms place.dt is.since is.before few ∙ ap (λ (n : ℕ). n + cond u.on place.dt 0) is.until
+        ∙ ap (λ (b : Bool). on_ms_of m events + cond b place.dt 0) is.on
 
 -- declarations take no time
 events_ms : (b : Bool) (p : Played) (rest : List Played) (n : ℕ) → (b ≡ false → ms_before p.item ≡ 0) → ms_of rest ≡ n
@@ -159,27 +246,32 @@ declared_ms (p ∷ ps) =
     events_ms (is_event p.item) p (events_played ps) (ms_of ps) (no_ms p.item) (declared_ms ps)
     ∙ sym (sum_by-cons (λ (q : Played). ms_before q.item) p ps)
 
+ms_all : (ended : Option EventPlace) (played : List Played) → ms_until ended (events_played played) ≡ ms_until ended played
+ms_all None played = declared_ms played
+ms_all (Some place) played = ap (λ (n : ℕ). n + place.dt) (declared_ms played)
+
 -- ---- the counts of a replay
 
 pub run_rows : {table : List Row} {script : Script} (c : Counter) (ran : Status) (came : Progress table script) (counted : Counted)
-    → c.frames.lost ≡ false → c.wholes.lost ≡ false → CountedReplay c came → IsCountOf c ran counted → CountsRun ran came counted
+    → c.frames.lost ≡ false → c.wholes.lost ≡ false → CountedReplay ran c came → IsCountOf c ran counted → CountsRun ran came counted
 run_rows c ran came counted kept whole replay is = record {
   motes = is.motes ∙ replay.motes;
-  ended = is.ended;
-  whole = is.whole;
-  last = λ none.
+  ended = ended_of c ran;
+  is_end = end_is c ran came replay.ended;
+  last =
       subst (λ (rows : List (List ℕ × ℕ)). HasRows rows (table_of_rows counted.all))
-      (ap (λ (n : ℕ). rows_of_moment n c.times.ms) (replay.events.counted.all ∙ replay.events.exact_all)
-      ∙ ap (λ (n : ℕ). rows_of_moment (count_all came.played) n) (replay.times.ms ∙ declared_ms came.played)) (is.last none);
-  times = λ none m rows there.
+      (ap (λ (n : ℕ). rows_of_moment n (times_until (ended_of c ran) c.times).ms)
+      (events_are (ended_of c ran) c.events.all came.played (replay.events.counted.all ∙ replay.events.exact_all) replay.events.few_all)
+      ∙ ap (λ (n : ℕ). rows_of_moment (events_until (ended_of c ran) came.played) n)
+      (ms_are (ended_of c ran) c.times (events_played came.played) is.fits replay.times ∙ ms_all (ended_of c ran) came.played)) is.last;
+  times = λ m rows there.
       let lt : m < length c.times.motes =
       omega (arith, get_within counted.motes.items m rows there, is.motes, replay.few, replay.times.motes) in
-      mote_times m c.times.ms (events_played came.played) (get_or c.times.motes m never_on) (table_of_rows rows) replay.times.ms
-      (replay.times.each m (get_or c.times.motes m never_on) (get_there c.times.motes m never_on lt)) (is.power none m rows there);
+      mote_until (ended_of c ran) m c.times (events_played came.played) (table_of_rows rows) is.fits replay.times lt (is.power m rows there);
   each = λ m rows there.
       let lt : m < length c.events.motes =
       omega (arith, get_within counted.motes.items m rows there, is.motes, replay.few, replay.events.counted.motes) in
-      mote_events c.events is.ended m came.played (get_or c.events.motes m no_counts) (table_of_rows rows) replay.events
+      mote_events c.events (ended_of c ran) m came.played (get_or c.events.motes m no_counts) (table_of_rows rows) replay.events
       (replay.events.counted.each m (get_or c.events.motes m no_counts) (get_there c.events.motes m no_counts lt)) (is.each m rows there);
   frames = λ m rows there.
       let are : AreFrames c.frames.sent.items c.frames.motes (events_played came.played) = replay.frames kept in
@@ -212,7 +304,7 @@ text_shows Timed P Q report text f is = is
 
 -- the counter has counted this replay
 abbrev pub SeenReplay : Counter → Status → (a b : Outside) → Type 0
-SeenReplay c ran a b = (table : List Row) → (x : Replayed table ran a b) × CountedReplay c x.came
+SeenReplay c ran a b = (table : List Row) → (x : Replayed table ran a b) × CountedReplay ran c x.came
 
 -- what a counter costs besides does not matter
 cost_shows : (asked : Form) (c : Counter) (costs : Costs) (ran : Status) (a b : Outside) (report text : List ℕ)
@@ -221,7 +313,7 @@ cost_shows : (asked : Form) (c : Counter) (costs : Costs) (ran : Status) (a b : 
 cost_shows asked c costs ran a b report text kept whole seen is =
     text_shows asked (IsCountOf (record c { costs = costs }) ran) (CountsReplay ran a b) report text shows is
   where
-    same : (table : List Row) → CountedReplay (record c { costs = costs }) (seen table).0.came
+    same : (table : List Row) → CountedReplay ran (record c { costs = costs }) (seen table).0.came
     same table = record {
       events = (seen table).1.events;
       times = (seen table).1.times;
@@ -229,6 +321,7 @@ cost_shows asked c costs ran a b report text kept whole seen is =
       wholes = (seen table).1.wholes;
       motes = (seen table).1.motes;
       few = (seen table).1.few;
+      ended = (seen table).1.ended;
     }
 
     shows : (counted : Counted) → IsCountOf (record c { costs = costs }) ran counted → CountsReplay ran a b counted

@@ -1,5 +1,5 @@
 -- All that is promised of a replay that writes what it costs (docs/COMMANDS.md, "What a script costs").
-use Rattle.std.specs.Prelude.{◌≡◌, ◌≢◌, false, ◌⊎◌, ℕ, ◌+◌, map, List, [], Some, None, Option, length, slice_get}
+use Rattle.std.specs.Prelude.{◌≡◌, false, ◌⊎◌, ℕ, ◌+◌, map, List, [], Some, None, Option, length, slice_get}
 use Rattle.std.specs.List.{range_with_len}
 use Rattle.dg_words.specs.Counts.{Rose}
 use Rattle.dg_base.specs.Outside.{Puts, PutsPrefix}
@@ -24,6 +24,7 @@ use Rattle.dg_cost_text.specs.declared.rows.Rows.{Rows}
 use Rattle.dg_moments.specs.Moments.{loaded_images, newest_at}
 use Rattle.dg_moments.specs.Wholes.{HasWholes}
 use Rattle.dg_moments.specs.declared.wholes.Wholes.{Wholes}
+use Rattle.dg_count.specs.Ended.{IsPlaceOfNext}
 use Rattle.dg_count.specs.declared.place.EventPlace.{EventPlace}
 use Rattle.dg_cost.specs.EventRows.{HasRows, HasEvents}
 use Rattle.dg_cost.specs.TimeRows.{time_rows, moment_rows}
@@ -43,16 +44,22 @@ pub record HasMomentRows (stores : List Store) (events : List Played) (counted :
   pub newest_are : newest ≡ map (λ (i : ℕ). newest_at stores events (i + 1)) (range_with_len 0 loaded_images)
   pub all : HasAllRows wholes.all newest (table_of_rows counted.all)
 
+-- A replay ended with this status. If that is NoImage, this is the mote, the time step and the kind of the event that found no
+-- image to start, which is the next one of the script. Otherwise there is no such event.
+abbrev pub IsEndOf : {table : List Row} {script : Script} → Status → Progress table script → Option EventPlace → Type 0
+IsEndOf NoImage came ended = IsPlaceOfNext came.left ended
+IsEndOf ran came ended = ended ≡ None
+
 -- The counts of a replay that ended with this status: a table for each mote whose board was used, with the rows of the events
--- that were played there. Where the replay ended since an event found no image to start, that event counts by its kind.
+-- that were played there. Where the replay ended since an event found no image to start, that event counts too.
 pub record CountsRun {table : List Row} {script : Script} (ran : Status) (came : Progress table script)
     (counted : Counted) : Type 0 where
   pub motes : length counted.motes.items ≡ length (stores_in (beginning_of came.ground came.done).world)
   pub ended : Option EventPlace
-  pub whole : ran ≢ NoImage → ended ≡ None
-  pub last : ended ≡ None → HasRows (moment_rows came.played) (table_of_rows counted.all)
-  pub times : ended ≡ None → (m : ℕ) (rows : Rows) → slice_get counted.motes.items m ≡ Some rows
-      → HasRows (time_rows m (events_played came.played)) (table_of_rows rows)
+  pub is_end : IsEndOf ran came ended
+  pub last : HasRows (moment_rows ended came.played) (table_of_rows counted.all)
+  pub times : (m : ℕ) (rows : Rows) → slice_get counted.motes.items m ≡ Some rows
+      → HasRows (time_rows ended m (events_played came.played)) (table_of_rows rows)
   pub each : (m : ℕ) (rows : Rows) → slice_get counted.motes.items m ≡ Some rows
       → HasEvents ended m came.played (table_of_rows rows)
   pub frames : (m : ℕ) (rows : Rows) → slice_get counted.motes.items m ≡ Some rows

@@ -1,11 +1,11 @@
 //! What was counted of motes, and of all, as rows.
-ghost use Rattle.std.specs.Prelude.{◌≡◌, ◌≢◌, ◌++◌, [], true, false, ℕ, IfOk, OnOk};
+ghost use Rattle.std.specs.Prelude.{◌≡◌, ◌++◌, [], true, false, ℕ, IfOk, OnOk};
 ghost use Rattle.std.specs.Prelude.{if◌then◌else◌, length, slice_get, slice_index_or};
 ghost use Rattle.dg_cost_text.specs.Moments.{is_moment_key, summed_table, AddsNoMoment};
 ghost use Rattle.dg_cost_text.specs.Table.{table_of_rows};
 ghost use Rattle.dg_cost_text.specs.declared.rows.Rows.{Rows};
 ghost use Rattle.dg_count.specs.Ended.{counts_at};
-ghost use Rattle.dg_cost.specs.Counting.{IsCountOf};
+ghost use Rattle.dg_cost.specs.Counting.{IsCountOf, ended_of};
 ghost use Rattle.dg_events.specs.Uptimes.{never_on};
 ghost use Rattle.dg_cost.specs.EventRows.{rows_of_events, rows_of_starts, rows_of_images, HasCounts, HasRows};
 ghost use Rattle.dg_events.specs.FrameCounters.{no_frames};
@@ -235,10 +235,10 @@ fn all_rows(
 
 /// The event that found no image to start, where a run ended so.
 pub fn ended_event(counter: &Counter, status: Status) -> Option<EventPlace>
-    ensures { status ≢ Status.NoImage → result ≡ None }
+    ensures { result ≡ ended_of counter.now status }
 {
     match status {
-        Status::NoImage => counter.costs.ended,
+        Status::NoImage => counter.ended,
         _ => None,
     }
 }
