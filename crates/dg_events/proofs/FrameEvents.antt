@@ -15,18 +15,20 @@ use Rattle.dg_rules.specs.Runs.{Played}
 use Rattle.dg_script.specs.declared.report.Report.{Report}
 use Rattle.dg_events.specs.Told.{Happened, told_by}
 use Rattle.dg_events.specs.Counters.{AreCounts}
-use Rattle.dg_events.specs.Frames.{frame_number, frame_size, frames_sent, is_sent, sent_at, sent_bytes_at, is_hearing, is_heard, bytes_brought}
-use Rattle.dg_events.specs.FrameCounters.{FramesAre, HasFrames, with_sent, with_heard, with_sent_at, with_heard_at, no_frames, AreFrames, KeepsKinds, HasNumbered, IsFrameless, IsSending, IsBringing}
+use Rattle.dg_events.specs.Frames.{frame_number, frame_size, frames_sent, is_sent, sent_at, sent_bytes_at, is_hearing, is_heard, is_outside, is_from_outside, bytes_brought}
+use Rattle.dg_events.specs.FrameCounters.{FramesAre, HasFrames, with_sent, with_heard, with_sent_at, with_heard_at, no_frames, AreFrames, AreFromOutside, OutsideAre, KeepsKinds, HasNumbered, IsFrameless, IsSending, IsBringing, IsBringingBytes, with_outside, with_outside_at, no_outside}
 use Rattle.dg_events.specs.FrameShares.{AreShares}
-use Rattle.dg_events.specs.RefusedFrames.{fault_brought, is_refused_frame}
+use Rattle.dg_events.specs.RefusedFrames.{fault_brought, is_refused_frame, is_refused_outside}
 use Rattle.dg_events.specs.Noted.{IsEventPlayed}
 use Rattle.dg_events.specs.declared.told.Told.{Told}
 use Rattle.dg_events.specs.declared.sent_frame.SentFrame.{SentFrame}
 use Rattle.dg_events.specs.declared.frame_counter.FrameCounts.{FrameCounts}
 use Rattle.dg_events.specs.declared.frame_counter.FrameCounter.{FrameCounter}
+use Rattle.dg_events.specs.declared.outside_counts.OutsideCounts.{OutsideCounts}
 use Rattle.dg_events.proofs.CountLemmas.{Is, none_more, some_more, at_other}
-use Rattle.dg_events.proofs.FrameLemmas.{and_both, get_there, all_set, get_map, map_set, some_of, sent_push, after_event, sent_still, sent_push_at, bytes_push_at, sent_more, sent_other, still_sized, past_end, number_some, sizes_push, more_sized, happened_in, is_in, event_in, brought_in, wide_in, told_in, not_heard, refused_unheard, heard_kind, at_false, heard_sized, never}
-use Rattle.dg_events.proofs.ShareLemmas.{at_none, none_shared, fault_shared, not_refused, unheard_refused, frame_small, refused_sized}
+use Rattle.dg_events.proofs.FrameLemmas.{and_both, get_there, all_set, get_map, map_set, some_of, sent_push, after_event, sent_still, sent_push_at, bytes_push_at, sent_more, sent_other, still_sized, past_end, number_some, sizes_push, more_sized, happened_in, is_in, event_in, brought_in, wide_in, told_in, not_brought, refused_unbrought, brought_kind, at_false, heard_sized, never}
+use Rattle.dg_events.proofs.OutsideLemmas.{still_outside, outside_unheard, none_outside}
+use Rattle.dg_events.proofs.ShareLemmas.{at_none, none_shared, some_shared, fault_shared, not_refused, unheard_refused, frame_small, refused_sized}
 
 -- ---- one more event
 
@@ -60,12 +62,11 @@ silent_event log motes past x p is still none calm has = record {
 pub skipped : (c : FrameCounter) (e : Event) (lines : List Report) (past : List Played) (p : Played) → IsFrameless e lines past p
     → HasFrames c past → HasFrames c (past ++ p ∷ [])
 skipped c e lines past p h has kept =
-    silent_event c.sent.items c.motes past (happened_in h.played) p (is_in h.played) h.sent (λ k. not_heard (happened_in h.played) k (none h.none))
-    (λ k. not_refused (happened_in h.played) k (none h.none)) (has kept)
-  where
-    none : (is_hearing e ≡ false) ⊎ (brought p.before e ≡ None) → (is_hearing (happened_in h.played).event ≡ false) ⊎ ((happened_in h.played).brought ≡ None)
-    none (inl silent) = inl (ap is_hearing (event_in h.played) ∙ silent)
-    none (inr nothing) = inr (brought_in h.played ∙ nothing)
+    let nothing : (happened_in h.played).brought ≡ None = brought_in h.played ∙ h.none in (
+      silent_event c.sent.items c.motes past (happened_in h.played) p (is_in h.played) h.sent
+          (λ k. not_brought is_hearing (happened_in h.played) k (inr nothing)) (λ k. not_refused is_hearing (happened_in h.played) k (inr nothing)) (has kept).0,
+      none_outside c.outside e lines past p h.played h.none (has kept).1,
+    )
 
 -- one that brings a frame with a number that no frame has
 number_none : (w : World) (n : ℕ) → (n ≡ 0) ⊎ (length w.sent < n) → frame_at w n ≡ None
@@ -76,10 +77,10 @@ number_none w (suc n) (inr far) = number_some w n ∙ past_end w.sent n (omega (
 pub unknown_frame : (c : FrameCounter) (e : Event) (lines : List Report) (number : ℕ) (fault : Option FrameFault) (past : List Played) (p : Played)
     → IsBringing e lines number fault past p → (number ≡ 0) ⊎ (length c.sent.items < number) → HasFrames c past → HasFrames c (past ++ p ∷ [])
 unknown_frame c e lines number fault past p h far has kept =
-    skipped c e lines past p (record { played = h.played; sent = h.sent; none = inr (h.brings ∙ ap (option_map (λ (s : Sent). s.bytes)) (number_none p.before number far_sent)) }) has kept
+    skipped c e lines past p (record { played = h.played; sent = h.sent; none = h.brings ∙ ap (option_map (λ (s : Sent). s.bytes)) (number_none p.before number far_sent) }) has kept
   where
     long : length c.sent.items ≡ length p.before.sent
-    long = sym (length-map c.sent.items (λ (f : SentFrame). f.kind)) ∙ ap length (has kept).kinds
+    long = sym (length-map c.sent.items (λ (f : SentFrame). f.kind)) ∙ ap length (has kept).0.kinds
         ∙ length-map (frames_sent past) (λ (s : Sent). frame_number s.bytes) ∙ ap length (sym h.before)
 
     far_sent : (number ≡ 0) ⊎ (length p.before.sent < number)
@@ -90,14 +91,21 @@ unknown_frame c e lines number fault past p h far has kept =
         by (inr past_is) = inr (omega (arith, past_is, long))
 
 -- one that is refused
+refused_event : (c : FrameCounter) (e : Event) (lines : List Report) (past : List Played) (p : Played) → (h : IsEventPlayed e lines p)
+    → p.after.sent ≡ frames_sent past → is_some (told_by lines).refused ≡ true → HasFrames c past → HasFrames c (past ++ p ∷ [])
+refused_event c e lines past p h still refused has kept = (
+  silent_event c.sent.items c.motes past (happened_in h) p (is_in h) still (λ k. refused_unbrought is_hearing (happened_in h) k taken)
+      (λ k. unheard_refused is_hearing (happened_in h) k taken) (has kept).0,
+  still_outside c.outside past (happened_in h) p (is_in h) (λ k. refused_unbrought is_outside (happened_in h) k taken)
+      (λ k. unheard_refused is_outside (happened_in h) k taken) (has kept).1,
+)
+  where
+    taken : is_some (happened_in h).told.refused ≡ true
+    taken = ap (λ (t : Told). is_some t.refused) (told_in h) ∙ refused
+
 pub refused_frame : (c : FrameCounter) (e : Event) (lines : List Report) (number : ℕ) (fault : Option FrameFault) (past : List Played) (p : Played)
     → IsBringing e lines number fault past p → is_some (told_by lines).refused ≡ true → HasFrames c past → HasFrames c (past ++ p ∷ [])
-refused_frame c e lines number fault past p h refused has kept =
-    silent_event c.sent.items c.motes past (happened_in h.played) p (is_in h.played) h.sent
-    (λ k. refused_unheard (happened_in h.played) k taken) (λ k. unheard_refused (happened_in h.played) k taken) (has kept)
-  where
-    taken : is_some (happened_in h.played).told.refused ≡ true
-    taken = ap (λ (t : Told). is_some t.refused) (told_in h.played) ∙ refused
+refused_frame c e lines number fault past p h refused has kept = refused_event c e lines past p h.played h.sent refused has kept
 
 -- one that brought a frame of this kind that is heard, and refused if it has a fault
 heard_event : (log now : List SentFrame) (motes : List FrameCounts) (i kind : ℕ) (bytes : List ℕ) (fault : Option FrameFault) (e : Event) (lines : List Report) (past : List Played) (p : Played)
@@ -129,7 +137,7 @@ heard_event log now motes i kind bytes fault e lines past p h hears brings kind_
     told = ap (λ (t : Told). is_some t.refused) (told_in h) ∙ taken
 
     test : (k : ℕ) → is_heard k (happened_in h) ≡ (kind == k)
-    test k = heard_kind (happened_in h) bytes kind k hearing told (brought_in h ∙ brings) kind_is
+    test k = brought_kind is_hearing (happened_in h) bytes kind k hearing told (brought_in h ∙ brings) kind_is
 
     sized : bytes_brought (happened_in h).brought ≡ frame_size kind
     sized = ap bytes_brought (brought_in h ∙ brings) ∙ size_is
@@ -154,7 +162,7 @@ heard_event log now motes i kind bytes fault e lines past p h hears brings kind_
         record {
           sent = sent_still i past (past ++ p ∷ []) (get_or motes i no_frames).sent same before.sent;
           heard = some_more i is_heard past (happened_in h) p 4 kind (get_or motes i no_frames).heard (is_in h) at_mote test before.heard;
-          refused = fault_shared i past (happened_in h) p fault (frame_size kind) (get_or motes i no_frames).refused (is_in h) at_mote hearing told fault_is
+          refused = fault_shared is_hearing i past (happened_in h) p fault (frame_size kind) (get_or motes i no_frames).refused (is_in h) at_mote hearing told fault_is
               sized before.refused;
         }
 
@@ -193,6 +201,77 @@ module _ (log now : List SentFrame) (motes : List FrameCounts) (number kind : �
       heard_event log now motes i kind found.0.bytes fault e lines past p h.played h.hears brings_it found.2
       (are.sizes at.index found.0 found.1 ∙ ap frame_size found.2) h.refuses h.sent taken here at.kept are
 
+-- one that brought these bytes from outside, which are refused if they have a fault
+pub outside_event : (c : FrameCounter) (now : List OutsideCounts) (i : ℕ) (bytes : List ℕ) (fault : Option FrameFault) (e : Event) (lines : List Report)
+    (past : List Played) (p : Played) → IsBringingBytes e lines bytes fault past p → is_some (told_by lines).refused ≡ false → i ≡ mote_of e
+    → now ≡ with_outside_at i bytes fault c.outside → HasFrames c past → HasFrames (record c { outside = now }) (past ++ p ∷ [])
+outside_event c now i bytes fault e lines past p h taken here now_is has kept = (
+  silent_event c.sent.items c.motes past x p is h.sent (λ k. not_brought is_hearing x k (inl unheard)) (λ k. not_refused is_hearing x k (inl unheard))
+      (has kept).0,
+  subst (λ (ms : List OutsideCounts). AreFromOutside ms (past ++ p ∷ [])) (sym now_is) (record {
+    many = length-set c.outside i (with_outside bytes fault (get_or c.outside i no_outside)) ∙ before.many;
+    each = all_set (λ (m : ℕ) (y : OutsideCounts). OutsideAre m (past ++ p ∷ []) y) c.outside i (with_outside bytes fault (get_or c.outside i no_outside))
+        came_here others;
+  }),
+)
+  where
+    x : Happened
+    x = happened_in h.played
+
+    is : Is x p
+    is = is_in h.played
+
+    before : AreFromOutside c.outside past
+    before = (has kept).1
+
+    outside : is_outside x.event ≡ true
+    outside = ap is_outside (event_in h.played) ∙ h.outside
+
+    unheard : is_hearing x.event ≡ false
+    unheard = outside_unheard x.event outside
+
+    told : is_some x.told.refused ≡ false
+    told = ap (λ (t : Told). is_some t.refused) (told_in h.played) ∙ taken
+
+    brings : x.brought ≡ Some bytes
+    brings = brought_in h.played ∙ h.brings
+
+    sized : bytes_brought x.brought ≡ length bytes
+    sized = ap bytes_brought brings
+
+    fault_is : fault_brought x.wide x.brought ≡ fault
+    fault_is =
+        ap (λ (wide : Bool). fault_brought wide x.brought) (wide_in h.played)
+        ∙ ap (λ (o : Option (List ℕ)). fault_brought (wide_at p.before (mote_of e)) o) (brought_in h.played) ∙ h.refuses
+
+    at_mote : mote_of x.event ≡ i
+    at_mote = ap mote_of (event_in h.played) ∙ sym here
+
+    came_here : i < length c.outside → OutsideAre i (past ++ p ∷ []) (with_outside bytes fault (get_or c.outside i no_outside))
+    came_here lt =
+        let was : OutsideAre i past (get_or c.outside i no_outside) = before.each i (get_or c.outside i no_outside) (get_there c.outside i no_outside lt) in
+        record {
+          came = some_shared i is_from_outside past x p 5 (frame_number bytes) (length bytes) (get_or c.outside i no_outside).came is at_mote
+              (λ k. brought_kind is_outside x bytes (frame_number bytes) k outside told brings refl) sized was.came;
+          refused = fault_shared is_outside i past x p fault (length bytes) (get_or c.outside i no_outside).refused is at_mote outside told fault_is sized
+              was.refused;
+        }
+
+    others : (m : ℕ) (y : OutsideCounts) → m ≢ i → slice_get c.outside m ≡ Some y → OutsideAre m (past ++ p ∷ []) y
+    others m y other there = record {
+      came = none_shared m is_from_outside past x p 5 y.came is (λ k. at_other m (is_from_outside k) x elsewhere) (before.each m y there).came;
+      refused = none_shared m is_refused_outside past x p 5 y.refused is (λ k. at_other m (is_refused_outside k) x elsewhere)
+          (before.each m y there).refused;
+    }
+      where
+        elsewhere : mote_of x.event ≢ m
+        elsewhere at = other (sym at ∙ at_mote)
+
+-- or is refused itself
+pub refused_outside : (c : FrameCounter) (bytes : List ℕ) (fault : Option FrameFault) (e : Event) (lines : List Report) (past : List Played) (p : Played)
+    → IsBringingBytes e lines bytes fault past p → is_some (told_by lines).refused ≡ true → HasFrames c past → HasFrames c (past ++ p ∷ [])
+refused_outside c bytes fault e lines past p h refused has kept = refused_event c e lines past p h.played h.sent refused has kept
+
 -- outcomes of frames that were sent
 pub marked_frame : (log now : List SentFrame) (motes : List FrameCounts) (played : List Played) → KeepsKinds log now → AreFrames log motes played
     → AreFrames now motes played
@@ -223,7 +302,7 @@ module _ (log : List SentFrame) (motes : List FrameCounts) (e : Event) (lines : 
   pushed = sent_push [] past p ∙ h.sent
 
   none : (k : ℕ) → is_heard k (happened_in h.played) ≡ false
-  none k = not_heard (happened_in h.played) k (inl (ap is_hearing (event_in h.played) ∙ h.none))
+  none k = not_brought is_hearing (happened_in h.played) k (inr (brought_in h.played ∙ h.none))
 
   long : length (frames_sent (past ++ p ∷ [])) ≡ length (frames_sent past) + 1
   long = ap length pushed ∙ length-append (frames_sent past) (record { by = mote_of e; bytes = h.bytes } ∷ [])
@@ -232,7 +311,7 @@ module _ (log : List SentFrame) (motes : List FrameCounts) (e : Event) (lines : 
   still_heard m xs before = none_more m is_heard past (happened_in h.played) p 4 xs (is_in h.played) (at_false m (happened_in h.played) none) before
 
   calm : (k : ℕ) → is_refused_frame k (happened_in h.played) ≡ false
-  calm k = not_refused (happened_in h.played) k (inl (ap is_hearing (event_in h.played) ∙ h.none))
+  calm k = not_refused is_hearing (happened_in h.played) k (inr (brought_in h.played ∙ h.none))
 
   still_refused : (m : ℕ) (xs : List Share) → AreShares m is_refused_frame past 5 xs → AreShares m is_refused_frame (past ++ p ∷ []) 5 xs
   still_refused m xs before =

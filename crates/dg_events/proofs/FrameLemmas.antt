@@ -17,11 +17,12 @@ use Rattle.dg_script.specs.declared.report.Report.{Report}
 use Rattle.dg_events.specs.Told.{Happened, happened, happening, told_by}
 use Rattle.dg_events.specs.Counts.{at, count_at}
 use Rattle.dg_events.specs.Counters.{as_u64}
-use Rattle.dg_events.specs.Frames.{frame_number, frame_size, sent_from, frames_sent, is_sent, sent_at, sent_bytes_at, is_hearing, is_of_kind, is_heard, bytes_brought, bytes_if, bytes_at}
-use Rattle.dg_events.specs.FrameCounters.{AreSent, FramesAre, AllFrames, no_frames, AreFrames}
+use Rattle.dg_events.specs.Frames.{frame_number, frame_size, sent_from, frames_sent, is_sent, sent_at, sent_bytes_at, is_of_kind, is_brought_by, is_heard, bytes_brought, bytes_if, bytes_at}
+use Rattle.dg_events.specs.FrameCounters.{AreSent, FramesAre, AllFrames, no_frames, AreFrames, OutsideAre, AreFromOutside, no_outside}
 use Rattle.dg_events.specs.Noted.{up, up_at, IsEventPlayed}
 use Rattle.dg_events.specs.declared.sent_frame.SentFrame.{SentFrame}
 use Rattle.dg_events.specs.declared.frame_counter.FrameCounts.{FrameCounts}
+use Rattle.dg_events.specs.declared.outside_counts.OutsideCounts.{OutsideCounts}
 use Rattle.dg_events.proofs.CountLemmas.{Is, count_more, up_again, same_again}
 use Rattle.dg_events.proofs.ToldLemmas.{came_to}
 
@@ -30,6 +31,12 @@ none_some x e = absurd cc
 
 same_some : {A : Type 0} (x y : A) → Some x ≡ Some y → x ≡ y
 same_some x y e = cc
+
+-- the kind that the first byte names
+pub kind_of_first : (bytes : List ℕ) (byte kind : ℕ) → Some byte ≡ slice_get bytes 0 → ((rest : List ℕ) → kind ≡ frame_number (byte ∷ rest))
+    → kind ≡ frame_number bytes
+kind_of_first [] byte kind first is = absurd (none_some byte (sym first))
+kind_of_first (b ∷ rest) byte kind first is = is rest ∙ ap (λ (x : ℕ). frame_number (x ∷ rest)) (same_some byte b first)
 
 -- ---- truth values
 
@@ -70,14 +77,13 @@ set_other (x ∷ xs) (suc i) zero y other = refl
 set_other (x ∷ xs) (suc i) (suc m) y other = set_other xs i m y (λ h. other (ap suc h))
 
 -- what holds of one mote, and of all others
-pub all_set : (Q : ℕ → FrameCounts → Type 0) (xs : List FrameCounts) (i : ℕ) (d : FrameCounts) → (i < length xs → Q i d)
-    → ((m : ℕ) (x : FrameCounts) → m ≢ i → slice_get xs m ≡ Some x → Q m x) → (m : ℕ) (x : FrameCounts)
-    → slice_get (set xs i d) m ≡ Some x → Q m x
-all_set Q xs i d here others m x there = elim (cases_eq m i) [
+pub all_set : {A : Type 0} (Q : ℕ → A → Type 0) (xs : List A) (i : ℕ) (d : A) → (i < length xs → Q i d)
+    → ((m : ℕ) (x : A) → m ≢ i → slice_get xs m ≡ Some x → Q m x) → (m : ℕ) (x : A) → slice_get (set xs i d) m ≡ Some x → Q m x
+all_set {A} Q xs i d here others m x there = elim (cases_eq m i) [
   | inl same ↦
       let lt : i < length xs = omega (arith, get_within (set xs i d) m x there, length-set xs i d, same) in
       let now : d ≡ x = same_some d x (sym (set_same xs i d lt) ∙ ap (slice_get (set xs i d)) (sym same) ∙ there) in
-      subst (λ (y : FrameCounts). Q m y) now (subst (λ (k : ℕ). Q k d) (sym same) (here lt))
+      subst (λ (y : A). Q m y) now (subst (λ (k : ℕ). Q k d) (sym same) (here lt))
   | inr other ↦ others m x other (sym (set_other xs i m d other) ∙ there)
 ]
 
@@ -99,7 +105,7 @@ some_of None f n e = absurd (none_some n e)
 some_of (Some x) f n e = (x, refl, same_some (f x) n e)
 
 -- before anything was played
-same_all : (n : ℕ) (r x : FrameCounts) (m : ℕ) → slice_get (replicate n r) m ≡ Some x → x ≡ r
+same_all : {A : Type 0} (n : ℕ) (r x : A) (m : ℕ) → slice_get (replicate n r) m ≡ Some x → x ≡ r
 same_all zero r x m there = absurd (none_some x there)
 same_all (suc n) r x zero there = sym (same_some r x there)
 same_all (suc n) r x (suc m) there = same_all n r x m there
@@ -122,6 +128,18 @@ no_frames_are m = record {
   sent = record { long = refl; each = λ k lt. zeros 4 k };
   heard = record { long = refl; each = λ k lt. zeros 4 k };
   refused = record { long = refl; each = λ k lt. no_shares 5 k };
+}
+
+no_outside_is : (m : ℕ) → OutsideAre m [] no_outside
+no_outside_is m = record {
+  came = record { long = refl; each = λ k lt. no_shares 5 k };
+  refused = record { long = refl; each = λ k lt. no_shares 5 k };
+}
+
+pub nothing_outside : (r : OutsideCounts) → r ≡ no_outside → AreFromOutside (replicate 16 r) []
+nothing_outside r is = record {
+  many = refl;
+  each = λ m x there. subst (λ (y : OutsideCounts). OutsideAre m [] y) (sym (same_all 16 r x m there ∙ is)) (no_outside_is m);
 }
 
 no_bytes : (n : ℕ) → 0 ≡ 0 * n
@@ -256,21 +274,21 @@ told_in {e} {lines} {p} h =
     let o = came_to e lines p h in
     ap (λ (x : Happened). x.told) (same_some (happened_in h) o.x (sym (is_in h) ∙ o.is)) ∙ o.told
 
--- no frame of a mote is heard in it
-pub not_heard : (x : Happened) (k : ℕ) → (is_hearing x.event ≡ false) ⊎ (x.brought ≡ None) → is_heard k x ≡ false
-not_heard x k (inl none) = ap (λ (b : Bool). b && (not (is_some x.told.refused) && is_of_kind k x.brought)) none
-not_heard x k (inr none) =
-    ap (λ (o : Option (List ℕ)). is_hearing x.event && (not (is_some x.told.refused) && is_of_kind k o)) none
-    ∙ ap (λ (b : Bool). is_hearing x.event && b) (and_false (not (is_some x.told.refused))) ∙ and_false (is_hearing x.event)
+-- it brings no frame as events of these do
+pub not_brought : (these : Event → Bool) (x : Happened) (k : ℕ) → (these x.event ≡ false) ⊎ (x.brought ≡ None) → is_brought_by these k x ≡ false
+not_brought these x k (inl none) = ap (λ (b : Bool). b && (not (is_some x.told.refused) && is_of_kind k x.brought)) none
+not_brought these x k (inr none) =
+    ap (λ (o : Option (List ℕ)). these x.event && (not (is_some x.told.refused) && is_of_kind k o)) none
+    ∙ ap (λ (b : Bool). these x.event && b) (and_false (not (is_some x.told.refused))) ∙ and_false (these x.event)
 
-pub refused_unheard : (x : Happened) (k : ℕ) → is_some x.told.refused ≡ true → is_heard k x ≡ false
-refused_unheard x k refused =
-    ap (λ (b : Bool). is_hearing x.event && (not b && is_of_kind k x.brought)) refused ∙ and_false (is_hearing x.event)
+pub refused_unbrought : (these : Event → Bool) (x : Happened) (k : ℕ) → is_some x.told.refused ≡ true → is_brought_by these k x ≡ false
+refused_unbrought these x k refused =
+    ap (λ (b : Bool). these x.event && (not b && is_of_kind k x.brought)) refused ∙ and_false (these x.event)
 
--- a frame of a kind is heard in it
-pub heard_kind : (x : Happened) (bytes : List ℕ) (kind k : ℕ) → is_hearing x.event ≡ true → is_some x.told.refused ≡ false
-    → x.brought ≡ Some bytes → frame_number bytes ≡ kind → is_heard k x ≡ (kind == k)
-heard_kind x bytes kind k hears taken brings is =
+-- it brings one of a kind so
+pub brought_kind : (these : Event → Bool) (x : Happened) (bytes : List ℕ) (kind k : ℕ) → these x.event ≡ true → is_some x.told.refused ≡ false
+    → x.brought ≡ Some bytes → frame_number bytes ≡ kind → is_brought_by these k x ≡ (kind == k)
+brought_kind these x bytes kind k hears taken brings is =
     ap (λ (b : Bool). b && (not (is_some x.told.refused) && is_of_kind k x.brought)) hears
     ∙ ap (λ (b : Bool). not b && is_of_kind k x.brought) taken ∙ ap (λ (o : Option (List ℕ)). is_of_kind k o) brings ∙ ap (λ (n : ℕ). n == k) is
 

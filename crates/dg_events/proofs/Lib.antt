@@ -1,6 +1,7 @@
 mod CountLemmas
 mod FrameLemmas
 mod ShareLemmas
+mod OutsideLemmas
 mod FrameEvents
 mod ToldLemmas
 mod PowerLemmas

@@ -9,12 +9,13 @@ use Rattle.dg_meter.specs.Shares.{no_share, one_more}
 use Rattle.dg_meter.specs.declared.share.Share.{Share}
 use Rattle.dg_frame.specs.Sizes.{wide_frame_size}
 use Rattle.dg_frame.specs.declared.FrameFault.{FrameFault}
+use Rattle.dg_base.specs.declared.events.Event.{Event}
 use Rattle.dg_rules.specs.Events.{mote_of}
 use Rattle.dg_rules.specs.Runs.{Played}
 use Rattle.dg_events.specs.Told.{Happened}
 use Rattle.dg_events.specs.Counts.{at, count_at}
-use Rattle.dg_events.specs.Frames.{frame_size, is_hearing, bytes_brought, bytes_at}
-use Rattle.dg_events.specs.RefusedFrames.{fault_number, fault_brought, is_refusal, is_refused_frame}
+use Rattle.dg_events.specs.Frames.{frame_size, bytes_brought, bytes_at}
+use Rattle.dg_events.specs.RefusedFrames.{fault_number, fault_brought, is_refusal, is_refused_by, is_refused_frame}
 use Rattle.dg_events.specs.FrameShares.{brought_share, capped_share, AreShares, with_one, with_fault}
 use Rattle.dg_events.proofs.CountLemmas.{Is, count_more}
 use Rattle.dg_events.proofs.FrameLemmas.{and_both, and_false, bytes_more}
@@ -102,33 +103,33 @@ some_shared m tests past x p kinds i size xs h here which sized is =
 
 -- ---- refused frames
 
--- no frame of a mote is refused in an event that brings none
-pub not_refused : (x : Happened) (k : ℕ) → (is_hearing x.event ≡ false) ⊎ (x.brought ≡ None) → is_refused_frame k x ≡ false
-not_refused x k (inl none) = ap (λ (b : Bool). b && (not (is_some x.told.refused) && is_refusal k (fault_brought x.wide x.brought))) none
-not_refused x k (inr none) =
-    ap (λ (o : Option (List ℕ)). is_hearing x.event && (not (is_some x.told.refused) && is_refusal k (fault_brought x.wide o))) none
-    ∙ ap (λ (b : Bool). is_hearing x.event && b) (and_false (not (is_some x.told.refused))) ∙ and_false (is_hearing x.event)
+-- no frame is refused in an event that brings none as events of these do
+pub not_refused : (these : Event → Bool) (x : Happened) (k : ℕ) → (these x.event ≡ false) ⊎ (x.brought ≡ None) → is_refused_by these k x ≡ false
+not_refused these x k (inl none) = ap (λ (b : Bool). b && (not (is_some x.told.refused) && is_refusal k (fault_brought x.wide x.brought))) none
+not_refused these x k (inr none) =
+    ap (λ (o : Option (List ℕ)). these x.event && (not (is_some x.told.refused) && is_refusal k (fault_brought x.wide o))) none
+    ∙ ap (λ (b : Bool). these x.event && b) (and_false (not (is_some x.told.refused))) ∙ and_false (these x.event)
 
 -- or that is refused itself
-pub unheard_refused : (x : Happened) (k : ℕ) → is_some x.told.refused ≡ true → is_refused_frame k x ≡ false
-unheard_refused x k refused =
-    ap (λ (b : Bool). is_hearing x.event && (not b && is_refusal k (fault_brought x.wide x.brought))) refused ∙ and_false (is_hearing x.event)
+pub unheard_refused : (these : Event → Bool) (x : Happened) (k : ℕ) → is_some x.told.refused ≡ true → is_refused_by these k x ≡ false
+unheard_refused these x k refused =
+    ap (λ (b : Bool). these x.event && (not b && is_refusal k (fault_brought x.wide x.brought))) refused ∙ and_false (these x.event)
 
--- an event in which a frame is heard, with its fault
-pub fault_shared : (m : ℕ) (past : List Played) (x : Happened) (p : Played) (fault : Option FrameFault) (size : ℕ) (xs : List Share) → Is x p
-    → mote_of x.event ≡ m → is_hearing x.event ≡ true → is_some x.told.refused ≡ false → fault_brought x.wide x.brought ≡ fault
-    → bytes_brought x.brought ≡ size → AreShares m is_refused_frame past 5 xs
-    → AreShares m is_refused_frame (past ++ p ∷ []) 5 (with_fault fault size xs)
-fault_shared m past x p fault size xs h here hears taken why sized is = by fault why
+-- an event that brings a frame so, with its fault
+pub fault_shared : (these : Event → Bool) (m : ℕ) (past : List Played) (x : Happened) (p : Played) (fault : Option FrameFault) (size : ℕ) (xs : List Share)
+    → Is x p → mote_of x.event ≡ m → these x.event ≡ true → is_some x.told.refused ≡ false → fault_brought x.wide x.brought ≡ fault
+    → bytes_brought x.brought ≡ size → AreShares m (is_refused_by these) past 5 xs
+    → AreShares m (is_refused_by these) (past ++ p ∷ []) 5 (with_fault fault size xs)
+fault_shared these m past x p fault size xs h here hears taken why sized is = by fault why
   where
-    test : (o : Option FrameFault) → fault_brought x.wide x.brought ≡ o → (k : ℕ) → is_refused_frame k x ≡ is_refusal k o
+    test : (o : Option FrameFault) → fault_brought x.wide x.brought ≡ o → (k : ℕ) → is_refused_by these k x ≡ is_refusal k o
     test o e k =
         ap (λ (b : Bool). b && (not (is_some x.told.refused) && is_refusal k (fault_brought x.wide x.brought))) hears
         ∙ ap (λ (b : Bool). not b && is_refusal k (fault_brought x.wide x.brought)) taken ∙ ap (λ (f : Option FrameFault). is_refusal k f) e
 
-    by : (o : Option FrameFault) → fault_brought x.wide x.brought ≡ o → AreShares m is_refused_frame (past ++ p ∷ []) 5 (with_fault o size xs)
-    by None e = none_shared m is_refused_frame past x p 5 xs h (at_none m is_refused_frame x (test None e)) is
-    by (Some f) e = some_shared m is_refused_frame past x p 5 (fault_number f) size xs h here (test (Some f) e) sized is
+    by : (o : Option FrameFault) → fault_brought x.wide x.brought ≡ o → AreShares m (is_refused_by these) (past ++ p ∷ []) 5 (with_fault o size xs)
+    by None e = none_shared m (is_refused_by these) past x p 5 xs h (at_none m (is_refused_by these) x (test None e)) is
+    by (Some f) e = some_shared m (is_refused_by these) past x p 5 (fault_number f) size xs h here (test (Some f) e) sized is
 
 -- ---- the bytes of refused frames
 

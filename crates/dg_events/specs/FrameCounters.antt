@@ -15,13 +15,15 @@ use Rattle.dg_script.specs.declared.report.Report.{Report}
 use Rattle.dg_events.specs.Counts.{count_at}
 use Rattle.dg_events.specs.Counters.{as_u64, AreCounts}
 use Rattle.dg_events.specs.Frames.{frame_number, frame_size, frames_sent, sent_at, sent_bytes_at, is_hearing, is_heard, bytes_at}
-use Rattle.dg_events.specs.FrameShares.{AreShares, with_fault}
+use Rattle.dg_events.specs.Frames.{is_outside, is_from_outside}
+use Rattle.dg_events.specs.FrameShares.{AreShares, with_one, with_fault}
 use Rattle.dg_events.specs.Noted.{IsEventPlayed, up_at}
-use Rattle.dg_events.specs.RefusedFrames.{fault_brought, is_refused_frame}
+use Rattle.dg_events.specs.RefusedFrames.{fault_brought, is_refused_frame, is_refused_outside}
 use Rattle.dg_events.specs.declared.sent_frame.HeardFrame.{HeardFrame}
 use Rattle.dg_events.specs.declared.sent_frame.SentFrame.{SentFrame}
 use Rattle.dg_events.specs.declared.frame_counter.FrameCounts.{FrameCounts}
 use Rattle.dg_events.specs.declared.frame_counter.FrameCounter.{FrameCounter}
+use Rattle.dg_events.specs.declared.outside_counts.OutsideCounts.{OutsideCounts}
 
 -- Each count is the number of the frames of that kind that the mote sent.
 pub record AreSent (mote : ℕ) (played : List Played) (counts : List ℕ) : Type 0 where
@@ -54,9 +56,20 @@ pub record AreFrames (log : List SentFrame) (motes : List FrameCounts) (played :
   pub each : AllFrames motes played
   pub sized : AreSized played
 
--- the counter has counted the frames that were sent, and those that were heard at each mote, unless memory ran out
+-- The counts of what came to a mote from outside are those of what was played.
+pub record OutsideAre (mote : ℕ) (played : List Played) (c : OutsideCounts) : Type 0 where
+  pub came : AreShares mote is_from_outside played 5 c.came
+  pub refused : AreShares mote is_refused_outside played 5 c.refused
+
+-- the counts of each mote are those of what was played
+pub record AreFromOutside (motes : List OutsideCounts) (played : List Played) : Type 0 where
+  pub many : length motes ≡ most_motes
+  pub each : (m : ℕ) (c : OutsideCounts) → slice_get motes m ≡ Some c → OutsideAre m played c
+
+-- the counter has counted the frames that were sent, and at each mote those that were heard and those that came from outside,
+-- unless memory ran out
 abbrev pub HasFrames : FrameCounter → List Played → Type 0
-HasFrames c played = c.lost ≡ false → AreFrames c.sent.items c.motes played
+HasFrames c played = c.lost ≡ false → AreFrames c.sent.items c.motes played × AreFromOutside c.outside played
 
 -- what was counted stays counted
 abbrev pub KeepsFrames : (before after : FrameCounter) → Type 0
@@ -82,6 +95,22 @@ with_sent_at mote kind motes = slice_set motes mote (with_sent kind (slice_index
 abbrev pub with_heard_at : (mote kind : ℕ) → Option FrameFault → List FrameCounts → List FrameCounts
 with_heard_at mote kind fault motes = slice_set motes mote (with_heard kind fault (slice_index_or motes mote no_frames))
 
+-- nothing came from outside
+abbrev pub no_outside : OutsideCounts
+no_outside = record { came = replicate 5 no_share; refused = replicate 5 no_share }
+
+-- these bytes came from outside, and are refused if they have a fault
+abbrev pub with_outside : (bytes : List ℕ) → Option FrameFault → OutsideCounts → OutsideCounts
+with_outside bytes fault c = record c {
+  came = with_one (frame_number bytes) (length bytes) c.came;
+  refused = with_fault fault (length bytes) c.refused;
+}
+
+-- the same among all motes
+abbrev pub with_outside_at : (mote : ℕ) → (bytes : List ℕ) → Option FrameFault → List OutsideCounts → List OutsideCounts
+with_outside_at mote bytes fault motes =
+    slice_set motes mote (with_outside bytes fault (slice_index_or motes mote no_outside))
+
 -- ---- the log
 
 -- each frame keeps its kind
@@ -102,16 +131,16 @@ HearsIn number before after (Some heard) = HasNumbered number before after heard
 
 -- ---- what is told of an event
 
--- An event sent no frame, and brought none of a mote.
+-- An event sent no frame, and brought none.
 pub record IsFrameless (e : Event) (lines : List Report) (past : List Played) (p : Played) : Type 0 where
   pub played : IsEventPlayed e lines p
   pub sent : p.after.sent ≡ frames_sent past
-  pub none : (is_hearing e ≡ false) ⊎ (brought p.before e ≡ None)
+  pub none : brought p.before e ≡ None
 
--- An event at a mote sent a frame of this kind, and brought none of a mote.
+-- An event at a mote sent a frame of this kind, and brought none.
 pub record IsSending (e : Event) (lines : List Report) (kind : ℕ) (past : List Played) (p : Played) : Type 0 where
   pub played : IsEventPlayed e lines p
-  pub none : is_hearing e ≡ false
+  pub none : brought p.before e ≡ None
   pub bytes : List ℕ
   pub kind_is : frame_number bytes ≡ kind
   pub size : length bytes ≡ frame_size kind
@@ -126,4 +155,13 @@ pub record IsBringing (e : Event) (lines : List Report) (number : ℕ) (fault : 
   pub brings : brought p.before e ≡ option_map (λ (s : Sent). s.bytes) (frame_at p.before number)
   pub refuses : fault_brought (wide_at p.before (mote_of e)) (brought p.before e) ≡ fault
   pub before : p.before.sent ≡ frames_sent past
+  pub sent : p.after.sent ≡ frames_sent past
+
+-- An event brought its mote these bytes from outside, and sent no frame. The mote refuses them if there is a fault.
+pub record IsBringingBytes (e : Event) (lines : List Report) (bytes : List ℕ) (fault : Option FrameFault) (past : List Played)
+    (p : Played) : Type 0 where
+  pub played : IsEventPlayed e lines p
+  pub outside : is_outside e ≡ true
+  pub brings : brought p.before e ≡ Some bytes
+  pub refuses : fault_brought (wide_at p.before (mote_of e)) (brought p.before e) ≡ fault
   pub sent : p.after.sent ≡ frames_sent past

@@ -1,6 +1,7 @@
--- The frames that motes sent and heard in a run, by kind (docs/COMMANDS.md, "What a script costs").
+-- The frames that motes sent and heard in a run, and those that came to them from outside, by kind (docs/COMMANDS.md, "What a
+-- script costs").
 use Rattle.std.specs.Prelude.{ℕ, ◌==◌, ◌&&◌, not, Bool, true, false, cond, if◌then◌else◌, List, [], ◌∷◌, length, count_by}
-use Rattle.std.specs.Prelude.{Option, Some, None, is_some}
+use Rattle.std.specs.Prelude.{Option, Some, None, is_some, codes}
 use Rattle.std.specs.List.{sum_by}
 use Rattle.dg_base.specs.declared.events.Event.{Event}
 use Rattle.dg_base.specs.declared.events.Event.TheVariants.{Tick, Hear, Last, Reset, Inject, Order as OrderEvent, Frame}
@@ -19,6 +20,10 @@ frame_number [] = 4
 frame_number (byte ∷ rest) =
     if byte == advert_kind then 0 else if byte == request_kind then 1 else if byte == packet_kind then 2
     else if byte == wide_kind then 3 else 4
+
+-- their names in keys, and that of bytes that are none of them
+abbrev pub frame_names : List (List ℕ)
+frame_names = codes "advert" ∷ codes "request" ∷ codes "packet" ∷ codes "wide" ∷ codes "else" ∷ []
 
 -- the bytes of a frame of a kind
 abbrev pub frame_size : ℕ → ℕ
@@ -64,9 +69,13 @@ abbrev pub is_of_kind : (kind : ℕ) → Option (List ℕ) → Bool
 is_of_kind kind None = false
 is_of_kind kind (Some bytes) = frame_number bytes == kind
 
--- A mote hears a frame of a kind: the event that brings it is not refused. What becomes of the frame, and a cut, do not matter.
+-- An event of these brings a frame of a kind, and is not refused. What becomes of the frame, and a cut, do not matter.
+abbrev pub is_brought_by : (Event → Bool) → (kind : ℕ) → Happened → Bool
+is_brought_by these kind x = these x.event && (not (is_some x.told.refused) && is_of_kind kind x.brought)
+
+-- a mote hears a frame of a kind
 abbrev pub is_heard : (kind : ℕ) → Happened → Bool
-is_heard kind x = is_hearing x.event && (not (is_some x.told.refused) && is_of_kind kind x.brought)
+is_heard kind x = is_brought_by is_hearing kind x
 
 abbrev pub bytes_brought : Option (List ℕ) → ℕ
 bytes_brought None = 0
@@ -80,3 +89,19 @@ bytes_if test (Some x) = cond (test x) (bytes_brought x.brought) 0
 -- the bytes of the frames of the events at a mote that pass a test
 abbrev pub bytes_at : (mote : ℕ) → (Happened → Bool) → List Played → ℕ
 bytes_at mote test played = sum_by (λ (p : Played). bytes_if (at mote test) (happening p.item p.before)) played
+
+-- ---- from outside
+
+-- the event brings bytes from outside
+abbrev pub is_outside : Event → Bool
+is_outside (Tick mote dt word) = false
+is_outside (Hear mote dt word frame) = false
+is_outside (Last from to dt word) = false
+is_outside (Reset mote dt word) = false
+is_outside (Inject mote image version dt word) = false
+is_outside (OrderEvent mote number image version dt word) = false
+is_outside (Frame mote dt word bytes) = true
+
+-- bytes from outside come to a mote, of the kind that their first one names
+abbrev pub is_from_outside : (kind : ℕ) → Happened → Bool
+is_from_outside kind x = is_brought_by is_outside kind x

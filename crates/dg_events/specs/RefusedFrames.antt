@@ -1,10 +1,11 @@
--- The frames that motes hear and refuse, by cause (docs/COMMANDS.md, "What a script costs").
+-- The frames that come to motes, of motes or from outside, and are refused, by cause (docs/COMMANDS.md, "What a script costs").
 use Rattle.std.specs.Prelude.{ℕ, ◌==◌, ◌&&◌, not, Bool, false, List, [], ◌∷◌, codes, Option, Some, None, is_some, Result, Ok, Err}
+use Rattle.dg_base.specs.declared.events.Event.{Event}
 use Rattle.dg_frame.specs.Grammar.{message_of}
 use Rattle.dg_frame.specs.declared.Message.{Message}
 use Rattle.dg_frame.specs.declared.FrameFault.{FrameFault}
 use Rattle.dg_frame.specs.declared.FrameFault.TheVariants.{Short, Kind, Length, Check, Range}
-use Rattle.dg_events.specs.Frames.{is_hearing}
+use Rattle.dg_events.specs.Frames.{is_hearing, is_outside}
 use Rattle.dg_events.specs.Told.{Happened}
 
 -- ---- causes: short, kind, length, check, range
@@ -36,7 +37,15 @@ abbrev pub is_refusal : (cause : ℕ) → Option FrameFault → Bool
 is_refusal cause None = false
 is_refusal cause (Some fault) = fault_number fault == cause
 
--- A mote hears a frame and refuses it by a cause: the event that brings the frame is not refused itself.
+-- An event of these brings a frame that the mote refuses by a cause. It is not refused itself.
+abbrev pub is_refused_by : (Event → Bool) → (cause : ℕ) → Happened → Bool
+is_refused_by these cause x =
+    these x.event && (not (is_some x.told.refused) && is_refusal cause (fault_brought x.wide x.brought))
+
+-- a mote hears a frame and refuses it by a cause
 abbrev pub is_refused_frame : (cause : ℕ) → Happened → Bool
-is_refused_frame cause x =
-    is_hearing x.event && (not (is_some x.told.refused) && is_refusal cause (fault_brought x.wide x.brought))
+is_refused_frame cause x = is_refused_by is_hearing cause x
+
+-- bytes from outside come to a mote, which refuses them by a cause
+abbrev pub is_refused_outside : (cause : ℕ) → Happened → Bool
+is_refused_outside cause x = is_refused_by is_outside cause x

@@ -13,6 +13,7 @@ ghost use Rattle.dg_events.specs.Frames.{frame_size};
 
 use crate::counting::{add_one, add_share};
 use crate::fault_kinds::fault_kind;
+use crate::outside_counts::OutsideCounts;
 use crate::sent_frame::{HeardFrame, SentFrame};
 use crate::told::told_by;
 use dg_base::MOST_MOTES;
@@ -96,13 +97,15 @@ pub struct FrameCounter {
     pub sent: Vec<SentFrame>,
     /// The counts of each mote that a script may have, by its number.
     pub motes: [FrameCounts; MOST_MOTES as usize],
+    /// The same of what came to each from outside.
+    pub outside: [OutsideCounts; MOST_MOTES as usize],
     /// Memory ran out: no count is valid.
     pub lost: bool,
 }
 
 /// Whether these lines report that an event was refused. Of most events nothing is reported.
 #[inline(always)]
-fn is_refused(reports: &[Report]) -> bool
+pub(crate) fn is_refused(reports: &[Report]) -> bool
     ensures { result ≡ is_some (told_by reports.now).refused }
 {
     !reports.is_empty() && is_told_refused(reports)
@@ -181,6 +184,7 @@ impl FrameCounter {
         FrameCounter {
             sent: Vec::new(alloc),
             motes: [FrameCounts::none(); MOST_MOTES as usize],
+            outside: [OutsideCounts::none(); MOST_MOTES as usize],
             lost: false,
         }
     }
@@ -232,6 +236,7 @@ impl FrameCounter {
         ensures room { result ≡ true → vec_len self.new.sent < vec_capacity self.new.sent }
         ensures sent { self.new.sent.items ≡ self.old.sent.items }
         ensures motes { self.new.motes ≡ self.old.motes }
+        ensures outside { self.new.outside ≡ self.old.outside }
         ensures lost { self.new.lost ≡ self.old.lost }
     {
         if self.sent.len() < self.sent.capacity() {
