@@ -15,12 +15,12 @@ use Rattle.dg_rules.specs.Runs.{Played}
 use Rattle.dg_script.specs.declared.report.Report.{Report}
 use Rattle.dg_world.specs.Worlds.{IsWorld}
 use Rattle.dg_world.specs.declared.world.World.{World as CodeWorld}
-use Rattle.dg_events.specs.Frames.{is_hearing}
-use Rattle.dg_events.specs.FrameCounters.{IsBringing}
+use Rattle.dg_events.specs.Frames.{is_hearing, is_outside}
+use Rattle.dg_events.specs.FrameCounters.{IsBringing, IsBringingBytes}
 use Rattle.dg_events.specs.Noted.{IsEventPlayed}
 use Rattle.dg_events.specs.RefusedFrames.{reader_fault, fault_brought}
 use Rattle.dg_count.specs.Shown.{IsShown, IsNumberOf}
-use Rattle.dg_count.proofs.FrameLemmas.{played_step, played_still, same_brought}
+use Rattle.dg_count.proofs.FrameLemmas.{played_step, played_still, bytes_still, same_brought}
 
 -- ---- an event changes no mote's width
 
@@ -81,3 +81,19 @@ one_brought {e = e} {past = past} {p = p} number m fault hears here is why h =
       before = h.before;
       sent = still ∙ h.before;
     }
+
+-- the bytes that an event brings from outside, and why its mote refuses them
+pub bytes_brought_in : {world : CodeWorld} {e : Event} {lines : List Report} {past : List Played} {p : Played} (m : ℕ) (wide : Bool) (bytes : List ℕ)
+    (fault : Option FrameFault) → is_outside e ≡ true → ((w : World) → brought w e ≡ Some bytes) → m ≡ mote_of e
+    → ((boards : List Device) (w : World) → IsWorld world boards w → wide ≡ wide_at w m) → fault_brought wide (Some bytes) ≡ fault
+    → IsShown world e lines past p → IsBringingBytes e lines bytes fault past p
+bytes_brought_in {e = e} {past = past} {p = p} m wide bytes fault outside brings here same why h = record {
+  played = h.played;
+  outside = outside;
+  brings = brings p.before;
+  refuses = ap (λ (bs : Option (List ℕ)). fault_brought (wide_at p.before (mote_of e)) bs) (brings p.before)
+      ∙ ap (λ (ns : List Bool). fault_brought (is_wide_mote ns (mote_of e)) (Some bytes)) (sym (event_narrow h.played))
+      ∙ ap (λ (k : ℕ). fault_brought (wide_at p.after k) (Some bytes)) (sym here)
+      ∙ ap (λ (b : Bool). fault_brought b (Some bytes)) (sym (same h.boards p.after h.stands)) ∙ why;
+  sent = bytes_still h.played outside ∙ h.before;
+}

@@ -13,7 +13,7 @@ use Rattle.dg_mote.specs.Effects.{frame_effect}
 use Rattle.dg_base.specs.declared.events.Event.{Event}
 use Rattle.dg_base.specs.declared.events.Event.TheVariants.{Tick, Hear, Last, Reset, Inject, Order as OrderEvent, Frame}
 use Rattle.dg_base.specs.declared.events.Step.{Step}
-use Rattle.dg_rules.specs.World.{World, Sent, Running, first_world, frame_at, last_frame, linked, last_by}
+use Rattle.dg_rules.specs.World.{World, Sent, Running, site, store_at, first_world, frame_at, last_frame, linked, last_by}
 use Rattle.dg_rules.specs.Events.{Does, Refuses, Goes, does, mote_of, hear_by, heard_sent, heard_last, unless_off}
 use Rattle.dg_rules.specs.Steps.{WorldStep, StepDoes, Ended, blows, and_sent, declared_as}
 use Rattle.dg_rules.specs.Past.{brought}
@@ -24,7 +24,8 @@ use Rattle.dg_replay.specs.Items.{is_event}
 use Rattle.dg_replay.specs.Shown.{events_played, LeadTo, IsApplied}
 use Rattle.dg_world.specs.Deployments.{Deployment}
 use Rattle.dg_world.specs.declared.world.World.{World as CodeWorld}
-use Rattle.dg_events.specs.Frames.{frame_number, frame_size, sent_from, frames_sent, is_hearing}
+use Rattle.dg_events.specs.Frames.{frame_number, frame_size, sent_from, frames_sent, is_hearing, is_outside}
+use Rattle.dg_events.specs.Kinds.{event_number}
 use Rattle.dg_events.specs.FrameCounters.{AreFrames, IsFrameless, IsSending}
 use Rattle.dg_events.specs.Noted.{IsEventPlayed}
 use Rattle.dg_events.specs.declared.sent_frame.SentFrame.{SentFrame}
@@ -57,6 +58,16 @@ last_silent w from to now word (Some f) = hear_silent w _ _ now word f.bytes
 off_silent : (o : Option Running) (d : Does) → SendsNone d → SendsNone (unless_off o d)
 off_silent None d none = tt
 off_silent (Some r) d none = none
+
+pub bytes_silent : (w : World) (e : Event) → is_outside e ≡ true → SendsNone (does w e)
+unfolding does
+bytes_silent w (Frame m dt word bytes) h = hear_silent w (store_at w m) (site w m).runs (w.moment + dt) word bytes
+bytes_silent w (Tick m dt word) h = absurd (both_ways false refl h)
+bytes_silent w (Hear m dt word frame) h = absurd (both_ways false refl h)
+bytes_silent w (Last from to dt word) h = absurd (both_ways false refl h)
+bytes_silent w (Reset m dt word) h = absurd (both_ways false refl h)
+bytes_silent w (Inject m image version dt word) h = absurd (both_ways false refl h)
+bytes_silent w (OrderEvent m number image version dt word) h = absurd (both_ways false refl h)
 
 does_silent : (w : World) (e : Event) → is_hearing e ≡ true → SendsNone (does w e)
 unfolding does
@@ -110,6 +121,11 @@ played_still {e} {lines} {p} h hears =
     let s = played_step h in
     step_still (does p.before e) p.before (record { event = e; cut = h.cut }) p.after s.0 (does_silent p.before e hears) s.1
 
+pub bytes_still : {e : Event} {lines : List Report} {p : Played} → IsEventPlayed e lines p → is_outside e ≡ true → p.after.sent ≡ p.before.sent
+bytes_still {e} {lines} {p} h outside =
+    let s = played_step h in
+    step_still (does p.before e) p.before (record { event = e; cut = h.cut }) p.after s.0 (bytes_silent p.before e outside) s.1
+
 -- ---- the frames of a run
 
 item_sent : (i : Item) (w v : World) (lines : List Report) → ItemStep w i v lines → is_event i ≡ false → v.sent ≡ w.sent
@@ -156,8 +172,9 @@ sends_past {e = e} {p = p} h = subst (λ (sent : List Sent). SendsOne sent p.aft
 
 -- no more frames than were counted
 pub none_sent : {world : CodeWorld} {e : Event} {lines : List Report} {past : List Played} {p : Played} {log : List SentFrame} {motes : List FrameCounts} (all : ℕ)
-    → is_hearing e ≡ false → all ≡ length p.after.sent → all ≤ length log → AreFrames log motes past → IsShown world e lines past p → IsFrameless e lines past p
-none_sent {e = e} {past = past} {p = p} all none all_is few are h = record { played = h.played; sent = by (sends_past h); none = inl none }
+    → ((w : World) → brought w e ≡ None) → all ≡ length p.after.sent → all ≤ length log → AreFrames log motes past → IsShown world e lines past p
+    → IsFrameless e lines past p
+none_sent {e = e} {past = past} {p = p} all none all_is few are h = record { played = h.played; sent = by (sends_past h); none = none p.before }
   where
     by : SendsOne (frames_sent past) p.after.sent (mote_of e) → p.after.sent ≡ frames_sent past
     by (inl same) = same
@@ -192,7 +209,7 @@ last_sent {e = e} {past = past} {p = p} all all_is more are h = by (sends_past h
 
 -- one more frame than was counted
 pub one_sent : {world : CodeWorld} {e : Event} {lines : List Report} {past : List Played} {p : Played} {log : List SentFrame} {motes : List FrameCounts} (all kind : ℕ) (message : Message)
-    → is_hearing e ≡ false → all ≡ length p.after.sent → length log < all
+    → ((w : World) → brought w e ≡ None) → all ≡ length p.after.sent → length log < all
     → Some (frame_of message) ≡ option_map (λ (s : Sent). s.bytes) (frame_at p.after all)
     → frame_number (frame_of message) ≡ kind → length (frame_of message) ≡ frame_size kind → AreFrames log motes past → IsShown world e lines past p
     → IsSending e lines kind past p
@@ -202,7 +219,7 @@ one_sent {e = e} {past = past} {p = p} all kind message none all_is more told ki
     same_some (frame_of message) (frame_of one.0) (told ∙ ap (option_map (λ (s : Sent). s.bytes)) (frame_behind p.after (frames_sent past) (record { by = mote_of e; bytes = frame_of one.0 }) all one.1 all_is)) in
     record {
       played = h.played;
-      none = none;
+      none = none p.before;
       bytes = frame_of message;
       kind_is = kind_is;
       size = size;
@@ -226,3 +243,13 @@ same_brought w v (Reset m dt word) same h = refl
 same_brought w v (Inject m image version dt word) same h = refl
 same_brought w v (OrderEvent m number image version dt word) same h = refl
 same_brought w v (Frame m dt word bytes) same h = refl
+
+-- a tick brings nothing, nor does what brings no frame of a mote and none from outside
+pub tick_brings : (e : Event) → event_number e ≡ 0 → (w : World) → brought w e ≡ None
+tick_brings (Tick m dt word) h w = refl
+tick_brings (Hear m dt word frame) h w = absurd (omega (arith, h))
+tick_brings (Last from to dt word) h w = absurd (omega (arith, h))
+tick_brings (Reset m dt word) h w = absurd (omega (arith, h))
+tick_brings (Inject m image version dt word) h w = absurd (omega (arith, h))
+tick_brings (OrderEvent m number image version dt word) h w = absurd (omega (arith, h))
+tick_brings (Frame m dt word bytes) h w = absurd (omega (arith, h))

@@ -1,5 +1,5 @@
 -- What was read of boards before a run is what the stores keep for which they stand.
-use Rattle.std.proofs.Common.{◌≡◌, ℕ, ◌<◌, ◌≤◌, true, false, nat_lt, List, [], ◌∷◌, length, inl, inr, refl, sym, ap, subst, ◌∙◌, zero, suc, arith}
+use Rattle.std.proofs.Common.{◌≡◌, ℕ, ◌<◌, ◌≤◌, false, nat_lt, List, [], ◌∷◌, length, inl, inr, refl, ap, subst, ◌∙◌, zero, suc, arith}
 use Rattle.std.specs.Prelude.{slice_get, Option, Some, None}
 use Rattle.std.specs.Option.{option_flatten}
 use Rattle.std.proofs.lemmas.Bool.{cases_Bool, both_ways, ltb-true, and_parts}
@@ -13,7 +13,7 @@ use Rattle.dg_rules.specs.Begins.{store_of}
 use Rattle.dg_world.specs.Applied.{SameBoards}
 use Rattle.dg_world.specs.Mounted.{StandFor}
 use Rattle.dg_moments.specs.Looking.{read_of, ReadsBoards}
-use Rattle.dg_moments.specs.Moments.{is_loaded, whole_version}
+use Rattle.dg_moments.specs.Moments.{whole_version}
 use Rattle.dg_moments.specs.Wholes.{whole_kept, given_kept, GivenTells}
 use Rattle.dg_moments.specs.declared.given.Given.{Given}
 

@@ -2,9 +2,9 @@
 ghost use Rattle.dg_events.specs.FrameCounters.{KeepsFrames};
 
 use crate::costs::Costs;
-use dg_events::{FrameCounter, HeardFrame, SentFrame, Told, add_one, add_share, bit, fault_kind};
+use dg_events::{FrameCounter, HeardFrame, SentFrame, Told, add_one, bit};
 use dg_mote::Heard;
-use dg_mote_cost::{CUT_ANSWER, FILL, PUT, TRACED_PUT, USED, Work, bytes_kind};
+use dg_mote_cost::{CUT_ANSWER, FILL, PUT, TRACED_PUT, USED, Work};
 use dg_rules::Event;
 use dg_world::World;
 use std::alloc::AllocError;
@@ -118,19 +118,14 @@ impl Costs {
         Ok(())
     }
 
-    /// Counts bytes from outside that were delivered to a mote.
+    /// Counts what a mote made of bytes from outside, and whether they are those of a frame that was sent.
     fn note_outside(&mut self, mote: u8, bytes: &[u8], found: bool, heard: Option<Heard>) {
         let index = usize::from(mote);
         if self.motes.len() <= index {
             return;
         }
-        let cost = &mut self.motes[index];
-        add_share(&mut cost.outside, bytes_kind(bytes), bytes.len());
         if found {
-            cost.traced = cost.traced.and(bytes.len());
-        }
-        if let Some(Heard::Refused(fault)) = heard {
-            add_share(&mut cost.refused_outside, fault_kind(fault), bytes.len());
+            self.motes[index].traced = self.motes[index].traced.and(bytes.len());
         }
         match heard {
             Some(heard) => self.answered(mote, heard),

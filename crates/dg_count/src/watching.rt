@@ -6,7 +6,7 @@ ghost use Rattle.dg_count.specs.Runs.{CountsEvent, NotesWholes, TimesEvent, sigh
 ghost use Rattle.dg_count.specs.Shown.{CountsFrames};
 
 use crate::counter::Counter;
-use crate::frame_counting::count_sent;
+use crate::frame_counting::count_other;
 use crate::place::place_of;
 use dg_meter::Metered;
 use dg_nor::Nor;
@@ -35,7 +35,7 @@ impl Counter {
         let place = place_of(event);
         self.events.note(event, place.kind, place.mote, reports);
         self.times.note(self.placed, place.mote, place.dt, reports);
-        count_sent(&mut self.frames, world, event, place.mote, reports);
+        count_other(&mut self.frames, world, event, place.mote, reports);
         let number = self.events.all;
         let done = self.costs.note_other_cost(
             &mut self.frames,

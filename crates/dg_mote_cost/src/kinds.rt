@@ -31,17 +31,6 @@ pub fn kind_of(message: &Message) -> u8
     }
 }
 
-/// The number of the kind that the first byte of a frame names.
-pub fn bytes_kind(bytes: &[u8]) -> usize {
-    match bytes.first() {
-        Some(1) => 0,
-        Some(2) => 1,
-        Some(3) => 2,
-        Some(4) => 3,
-        _ => 4,
-    }
-}
-
 pub const ANSWERS: [&str; 12] = [
     "refused", "dropped", "noted", "same", "other", "asks", "serves", "merged", "took", "sealed",
     "bad", "cut",

@@ -10,7 +10,7 @@ mod share;
 mod work;
 
 pub use hot_cost::{FILL, HotCost, MOTES, PUT, TRACED_PUT, USED};
-pub use kinds::{ANSWERS, CUT_ANSWER, FRAMES, PACKET, bytes_kind, kind_of};
+pub use kinds::{ANSWERS, CUT_ANSWER, FRAMES, PACKET, kind_of};
 pub use mote::MoteCost;
 pub use pages::{Have, KeptPages};
 pub use share::{add, narrow, share_of};

@@ -9,8 +9,7 @@ pub struct MoteCost {
     pub started: u64,
     /// How many short starts are counted.
     pub gesture: u8,
-    pub outside: [Share; 5],
-    pub refused_outside: [Share; 5],
+    /// What came from outside and equals a frame that a neighbour sent.
     pub traced: Share,
     /// The restarts in ticks in which a cut fired.
     pub cut_restarts: u64,
@@ -41,8 +40,6 @@ impl MoteCost {
         MoteCost {
             started: 0,
             gesture: 0,
-            outside: [Share::none(); 5],
-            refused_outside: [Share::none(); 5],
             traced: Share::none(),
             cut_restarts: 0,
             no_image: 0,

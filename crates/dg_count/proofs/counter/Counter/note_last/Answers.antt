@@ -3,12 +3,18 @@ use Rattle.std.specs.Prelude.{map}
 use Rattle.dg_base.specs.declared.events.Event.{Event}
 use Rattle.dg_meter.specs.Meters.{metered_device}
 use Rattle.dg_count.specs.Runs.{CountsEvent, NotesWholes}
+use Rattle.dg_count.specs.Shown.{CountsFrames}
 use Rattle.dg_count.proofs.counter.Counter.note_last.Goals as goal
 
 pub returns-clause-counts : goal.returns-clause-counts
 returns-clause-counts g c =
     subst (λ (e : Event). CountsEvent c.args.self.now.events c.note_told_last.new.self.events e c.args.reports.now) (sym c.requires.is)
     c.note_told_last.ensures.counts
+
+pub returns-clause-frames : goal.returns-clause-frames
+returns-clause-frames g c =
+    subst (λ (e : Event). CountsFrames c.args.self.now.frames c.note_told_last.new.self.frames c.args.world.now e c.args.reports.now) (sym c.requires.is)
+    c.note_told_last.ensures.frames
 
 pub returns-clause-wholes : goal.returns-clause-wholes
 returns-clause-wholes g c =

@@ -5,7 +5,7 @@ use Rattle.dg_moments.specs.Telling.{BringsWholes}
 use Rattle.dg_count.proofs.counter.Counter.note_other.Goals as goal
 
 pub returns-clause-frames : goal.returns-clause-frames
-returns-clause-frames g c past p shown has = c.note_other_cost-done.ensures (past ++ p ∷ []) (c.count_sent.ensures past p shown has)
+returns-clause-frames g c past p shown has = c.note_other_cost-done.ensures (past ++ p ∷ []) (c.count_other.ensures past p shown has)
 
 pub returns-clause-wholes : goal.returns-clause-wholes
 returns-clause-wholes g c =

@@ -1,8 +1,12 @@
-use Rattle.std.proofs.Common.{◌∷◌, ◌++◌, [], ℕ, subst}
+use Rattle.std.proofs.Common.{ℕ, subst}
 use Rattle.std.specs.Prelude.{map}
 use Rattle.dg_meter.specs.Meters.{metered_device}
 use Rattle.dg_moments.specs.Telling.{BringsWholes}
+use Rattle.dg_count.proofs.FrameLemmas.{tick_brings}
 use Rattle.dg_count.proofs.counter.Counter.note_quiet_tick.Goals as goal
+
+pub count_sent-requires-clause-none : goal.count_sent-requires-clause-none
+count_sent-requires-clause-none g c = tick_brings c.args.event.now c.requires.kind
 
 pub returns-clause-times : goal.returns-clause-times
 returns-clause-times g c past p h was is = c.note_quiet-2.ensures c.args.self.now.placed past c.args.event.now p c.requires.dt h was is

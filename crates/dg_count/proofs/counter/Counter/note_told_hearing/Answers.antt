@@ -1,4 +1,4 @@
-use Rattle.std.proofs.Common.{◌∷◌, ◌++◌, [], ℕ, subst}
+use Rattle.std.proofs.Common.{ℕ, subst}
 use Rattle.std.specs.Prelude.{map}
 use Rattle.dg_meter.specs.Meters.{metered_device}
 use Rattle.dg_moments.specs.Telling.{BringsWholes}

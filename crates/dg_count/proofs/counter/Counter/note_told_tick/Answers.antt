@@ -2,7 +2,11 @@ use Rattle.std.proofs.Common.{◌∷◌, ◌++◌, [], ℕ, subst}
 use Rattle.std.specs.Prelude.{map}
 use Rattle.dg_meter.specs.Meters.{metered_device}
 use Rattle.dg_moments.specs.Telling.{BringsWholes}
+use Rattle.dg_count.proofs.FrameLemmas.{tick_brings}
 use Rattle.dg_count.proofs.counter.Counter.note_told_tick.Goals as goal
+
+pub count_sent-requires-clause-none : goal.count_sent-requires-clause-none
+count_sent-requires-clause-none g c = tick_brings c.args.event.now c.requires.kind
 
 pub returns-clause-frames : goal.returns-clause-frames
 returns-clause-frames g c past p shown has = c.note_tick_cost-done.ensures (past ++ p ∷ []) (c.count_sent.ensures past p shown has)
