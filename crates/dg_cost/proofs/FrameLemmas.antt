@@ -1,6 +1,6 @@
 -- The rows of frames of a counter are those of the run that it counted.
-use Rattle.std.proofs.Common.{◌≡◌, ℕ, ◌+◌, ◌*◌, ◌-◌, ◌%◌, ◌^◌, ◌<◌, ◌≤◌, Bool, true, false, cond, ◌==◌, List, ◌++◌, length, get_or, min, sym, ap, subst, ◌∙◌, arith}
-use Rattle.std.specs.Prelude.{slice_index, codes}
+use Rattle.std.proofs.Common.{◌≡◌, ℕ, ◌+◌, ◌*◌, ◌-◌, ◌%◌, ◌^◌, ◌<◌, ◌≤◌, Bool, true, false, cond, ◌==◌, ◌&&◌, not, List, ◌++◌, length, get_or, min, sym, ap, subst, ◌∙◌, arith}
+use Rattle.std.specs.Prelude.{slice_index, codes, is_some}
 use Rattle.std.proofs.Math.Nat.{min-eq_left, mul-le-mul}
 use Rattle.std.proofs.lemmas.Nat.{mod-mul-add}
 use Rattle.std.proofs.lemmas.List.FromFn.{fill_by_all}
@@ -9,19 +9,21 @@ use Rattle.dg_meter.specs.Shares.{no_share}
 use Rattle.dg_meter.specs.declared.share.Share.{Share}
 use Rattle.dg_rules.specs.Sizes.{most_events}
 use Rattle.dg_rules.specs.Runs.{Played}
-use Rattle.dg_events.specs.Told.{happening}
+use Rattle.dg_events.specs.Told.{Happened, happening}
 use Rattle.dg_events.specs.Counts.{passes, at, count_at}
 use Rattle.dg_events.specs.Counters.{as_u64}
-use Rattle.dg_events.specs.Frames.{frame_size, frames_sent, is_sent, sent_at, sent_bytes_at, is_heard, bytes_at}
-use Rattle.dg_events.specs.FrameShares.{brought_share, capped_share}
-use Rattle.dg_events.specs.RefusedFrames.{is_refused_frame}
-use Rattle.dg_events.specs.FrameCounters.{AreFrames, FramesAre}
+use Rattle.dg_events.specs.Frames.{frame_size, frames_sent, is_sent, sent_at, sent_bytes_at, is_of_kind, is_heard, is_from_outside, bytes_at}
+use Rattle.dg_events.specs.FrameShares.{brought_share, capped_share, AreShares}
+use Rattle.dg_events.specs.RefusedFrames.{fault_brought, is_refusal, is_refused_frame, is_refused_outside}
+use Rattle.dg_events.specs.FrameCounters.{AreFrames, FramesAre, OutsideAre}
 use Rattle.dg_events.specs.declared.sent_frame.SentFrame.{SentFrame}
 use Rattle.dg_events.specs.declared.frame_counter.FrameCounts.{FrameCounts}
+use Rattle.dg_events.specs.declared.outside_counts.OutsideCounts.{OutsideCounts}
 use Rattle.dg_cost_text.specs.Table.{share_rows}
 use Rattle.dg_cost.specs.EventRows.{HasRows}
+use Rattle.dg_cost.proofs.BytesLemmas.{BringFew}
 use Rattle.dg_cost.proofs.RowLemmas.{then_rows}
-use Rattle.dg_cost.specs.FrameRows.{rows_of_frames, bytes_of_kind, counted_rows, refused_shares, HasFrameCounts, HasFrameRows}
+use Rattle.dg_cost.specs.FrameRows.{rows_of_frames, bytes_of_kind, counted_rows, refused_shares, outside_shares, refused_outside_shares, five_shares, HasFrameCounts, HasFrameRows}
 
 below_end : (n w : ℕ) → n < w → n % w ≡ n
 below_end n w lt = let is : n ≡ 0 * w + n = omega arith in ap (λ (j : ℕ). j % w) is ∙ mod-mul-add 0 w n lt
@@ -96,24 +98,43 @@ exact_rows before counts n b few sized are = same_rows before (λ (k : ℕ). sli
 abbrev pub of_both : (count bytes : ℕ) → Share
 of_both n b = record { count = n; bytes = b }
 
--- so many refused frames, where there are few
-exact_share : (n b l : ℕ) → n ≤ most_events → b ≤ l * 62 → l ≤ most_events → capped_share (of_both n b) ≡ of_both n b
-exact_share n b l few small_bytes events =
-    let same : 62 ≤ 62 = omega arith in
-    let most : l * 62 ≤ most_events * 62 = mul-le-mul events same in
+-- so many frames and bytes, where there are few
+exact_share : (n b l size : ℕ) → size ≤ 64 → n ≤ most_events → b ≤ l * size → l ≤ most_events → capped_share (of_both n b) ≡ of_both n b
+exact_share n b l size short few small_bytes events =
+    let most : l * size ≤ most_events * 64 = mul-le-mul events short in
     ap (λ (i : ℕ). of_both i (min b (2 ^ 64 - 1))) (min-eq_left {n = n} {m = 2 ^ 64 - 1} (omega (arith, few)))
     ∙ ap (λ (i : ℕ). of_both n i) (min-eq_left {n = b} {m = 2 ^ 64 - 1} (omega (arith, small_bytes, most)))
 
+-- the shares of five tests, where the bytes are few
+exact_shares : (m : ℕ) (tests : ℕ → Happened → Bool) (events : List Played) (size : ℕ) (shares : List Share) → size ≤ 64 → length events ≤ most_events
+    → ((k : ℕ) → bytes_at m (tests k) events ≤ length events * size) → AreShares m tests events 5 shares → shares ≡ five_shares m tests events
+exact_shares m tests events size shares short few small_bytes are =
+    fill_by_all (λ (k : ℕ). brought_share m (tests k) events) shares 5 no_share are.long exact
+  where
+    few_counted : (k : ℕ) → count_at m (tests k) events ≤ most_events
+    few_counted k = omega (arith, count_by-le-length (λ (p : Played). passes (at m (tests k)) (happening p.item p.before)) events, few)
+
+    exact : (k : ℕ) → k < 5 → get_or shares k no_share ≡ brought_share m (tests k) events
+    exact k lt =
+        are.each k lt
+        ∙ exact_share (count_at m (tests k) events) (bytes_at m (tests k) events) (length events) size short (few_counted k) (small_bytes k) few
+
 -- the rows of the frames of a mote
-pub mote_frames : (m : ℕ) (events : List Played) (log : List SentFrame) (motes : List FrameCounts) (c : FrameCounts) (table : List (List ℕ × ℕ))
-    → length events ≤ most_events → AreFrames log motes events → FramesAre m events c → HasFrameCounts c table → HasFrameRows m events table
-mote_frames m events log motes c table few are counts has = record {
+pub mote_frames : (m : ℕ) (events : List Played) (log : List SentFrame) (motes : List FrameCounts) (c : FrameCounts) (o : OutsideCounts)
+    (table : List (List ℕ × ℕ)) → length events ≤ most_events → BringFew events → AreFrames log motes events → FramesAre m events c → OutsideAre m events o
+    → HasFrameCounts c o table → HasFrameRows m events table
+mote_frames m events log motes c o table few short are counts came has = record {
   sent = subst (λ (rows : List (List ℕ × ℕ)). HasRows rows table)
       (exact_rows (codes "sent.") c.sent (λ (k : ℕ). sent_at m k events) (λ (k : ℕ). sent_bytes_at m k events) few_sent (λ k. are.sized.sent m k) counts.sent.each) has.sent;
   heard = subst (λ (rows : List (List ℕ × ℕ)). HasRows rows table)
       (exact_rows (codes "heard.") c.heard (λ (k : ℕ). count_at m (is_heard k) events) (λ (k : ℕ). bytes_at m (is_heard k) events) few_heard (λ k. are.sized.heard m k) counts.heard.each) has.heard;
+  outside = subst (λ (shares : List Share). HasRows (outside_shares shares) table)
+      (exact_shares m is_from_outside events 64 o.came (omega arith) few (λ k. short m (λ (x : Happened). not (is_some x.told.refused) && is_of_kind k x.brought)) came.came) has.outside;
   refused = subst (λ (shares : List Share). HasRows (refused_shares shares) table)
-      (fill_by_all (λ (k : ℕ). brought_share m (is_refused_frame k) events) c.refused 5 no_share counts.refused.long refused_are) has.refused;
+      (exact_shares m is_refused_frame events 62 c.refused (omega arith) few (λ k. are.sized.refused m k) counts.refused) has.refused;
+  refused_outside = subst (λ (shares : List Share). HasRows (refused_outside_shares shares) table)
+      (exact_shares m is_refused_outside events 64 o.refused (omega arith) few
+      (λ k. short m (λ (x : Happened). not (is_some x.told.refused) && is_refusal k (fault_brought x.wide x.brought))) came.refused) has.refused_outside;
 }
   where
     few_sent : (k : ℕ) → sent_at m k events ≤ most_events
@@ -121,12 +142,3 @@ mote_frames m events log motes c table few are counts has = record {
 
     few_heard : (k : ℕ) → count_at m (is_heard k) events ≤ most_events
     few_heard k = omega (arith, count_by-le-length (λ (p : Played). passes (at m (is_heard k)) (happening p.item p.before)) events, few)
-
-    few_refused : (k : ℕ) → count_at m (is_refused_frame k) events ≤ most_events
-    few_refused k = omega (arith, count_by-le-length (λ (p : Played). passes (at m (is_refused_frame k)) (happening p.item p.before)) events, few)
-
-    refused_are : (k : ℕ) → k < 5 → get_or c.refused k no_share ≡ brought_share m (is_refused_frame k) events
-    refused_are k lt =
-        counts.refused.each k lt
-        ∙ exact_share (count_at m (is_refused_frame k) events) (bytes_at m (is_refused_frame k) events) (length events) (few_refused k)
-        (are.sized.refused m k) few

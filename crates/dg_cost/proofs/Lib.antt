@@ -1,3 +1,4 @@
+mod BytesLemmas
 mod FrameLemmas
 mod LookingLemmas
 mod MomentRowLemmas

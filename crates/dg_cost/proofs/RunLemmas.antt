@@ -33,7 +33,8 @@ use Rattle.dg_events.specs.declared.event_counter.EventCounter.{EventCounter}
 use Rattle.dg_cost_text.specs.Table.{table_of_rows}
 use Rattle.dg_cost_text.specs.declared.rows.Counted.{Counted}
 use Rattle.dg_count.specs.Ended.{IsPlaceOfNext, with_ended, all_until, times_until}
-use Rattle.dg_events.specs.FrameCounters.{AreFrames, no_frames}
+use Rattle.dg_events.specs.FrameCounters.{AreFrames, AreFromOutside, no_frames, no_outside}
+use Rattle.dg_cost.proofs.BytesLemmas.{BringFew, bring_few}
 use Rattle.dg_cost.proofs.FrameLemmas.{mote_frames}
 use Rattle.dg_cost.proofs.MomentRowLemmas.{newest_are}
 use Rattle.dg_count.specs.Runs.{CountedRun, CountedReplay}
@@ -253,8 +254,9 @@ ms_all (Some place) played = ap (λ (n : ℕ). n + place.dt) (declared_ms played
 -- ---- the counts of a replay
 
 pub run_rows : {table : List Row} {script : Script} (c : Counter) (ran : Status) (came : Progress table script) (counted : Counted)
-    → c.frames.lost ≡ false → c.wholes.lost ≡ false → CountedReplay ran c came → IsCountOf c ran counted → CountsRun ran came counted
-run_rows c ran came counted kept whole replay is = record {
+    → c.frames.lost ≡ false → c.wholes.lost ≡ false → BringFew (events_played came.played) → CountedReplay ran c came → IsCountOf c ran counted
+    → CountsRun ran came counted
+run_rows c ran came counted kept whole short replay is = record {
   motes = is.motes ∙ replay.motes;
   ended = ended_of c ran;
   is_end = end_is c ran came replay.ended;
@@ -274,11 +276,15 @@ run_rows c ran came counted kept whole replay is = record {
       mote_events c.events (ended_of c ran) m came.played (get_or c.events.motes m no_counts) (table_of_rows rows) replay.events
       (replay.events.counted.each m (get_or c.events.motes m no_counts) (get_there c.events.motes m no_counts lt)) (is.each m rows there);
   frames = λ m rows there.
-      let are : AreFrames c.frames.sent.items c.frames.motes (events_played came.played) = replay.frames kept in
+      let are : AreFrames c.frames.sent.items c.frames.motes (events_played came.played) = (replay.frames kept).0 in
+      let came_in : AreFromOutside c.frames.outside (events_played came.played) = (replay.frames kept).1 in
       let lt : m < length c.frames.motes =
       omega (arith, get_within counted.motes.items m rows there, is.motes, replay.few, are.many) in
-      mote_frames m (events_played came.played) c.frames.sent.items c.frames.motes (get_or c.frames.motes m no_frames) (table_of_rows rows) replay.times.few are
-      (are.each m (get_or c.frames.motes m no_frames) (get_there c.frames.motes m no_frames lt)) (is.frames m rows there);
+      let in_outside : m < length c.frames.outside =
+      omega (arith, get_within counted.motes.items m rows there, is.motes, replay.few, came_in.many) in
+      mote_frames m (events_played came.played) c.frames.sent.items c.frames.motes (get_or c.frames.motes m no_frames) (get_or c.frames.outside m no_outside)
+      (table_of_rows rows) replay.times.few short are (are.each m (get_or c.frames.motes m no_frames) (get_there c.frames.motes m no_frames lt))
+      (came_in.each m (get_or c.frames.outside m no_outside) (get_there c.frames.outside m no_outside in_outside)) (is.frames m rows there);
   moments = record {
     wholes = c.wholes;
     kept = whole;
@@ -326,7 +332,7 @@ cost_shows asked c costs ran a b report text kept whole seen is =
 
     shows : (counted : Counted) → IsCountOf (record c { costs = costs }) ran counted → CountsReplay ran a b counted
     shows counted has table =
-        ((seen table).0, run_rows (record c { costs = costs }) ran (seen table).0.came counted kept whole (same table) has)
+        ((seen table).0, run_rows (record c { costs = costs }) ran (seen table).0.came counted kept whole (bring_few (seen table).0.input (seen table).0.came) (same table) has)
 
 -- A report was kept from none on, and the text was made of it and of the counts.
 pub rehearsed : (asked : Form) (c : Counter) (costs : Costs) (ran status : Status) (a b : Outside) (kept report shown text : List ℕ)

@@ -10,7 +10,7 @@ use Rattle.dg_count.specs.declared.counter.Counter.{Counter}
 use Rattle.dg_count.specs.declared.place.EventPlace.{EventPlace}
 use Rattle.dg_events.specs.Uptimes.{never_on}
 use Rattle.dg_cost.specs.EventRows.{HasCounts, HasRows}
-use Rattle.dg_events.specs.FrameCounters.{no_frames}
+use Rattle.dg_events.specs.FrameCounters.{no_frames, no_outside}
 use Rattle.dg_cost.specs.FrameRows.{HasFrameCounts}
 use Rattle.dg_cost.specs.MomentRows.{HasWholeRows, TellsAll}
 use Rattle.dg_cost.specs.TimeRows.{rows_of_power, rows_of_moment}
@@ -32,7 +32,8 @@ pub record IsCountWith (c : Counter) (ended : Option EventPlace) (counted : Coun
   pub each : (m : ℕ) (rows : Rows) → slice_get counted.motes.items m ≡ Some rows
       → HasCounts (counts_at ended c.events m) (table_of_rows rows)
   pub frames : (m : ℕ) (rows : Rows) → slice_get counted.motes.items m ≡ Some rows
-      → HasFrameCounts (slice_index_or c.frames.motes m no_frames) (table_of_rows rows)
+      → HasFrameCounts (slice_index_or c.frames.motes m no_frames) (slice_index_or c.frames.outside m no_outside)
+      (table_of_rows rows)
   pub wholes : (m : ℕ) (rows : Rows) → slice_get counted.motes.items m ≡ Some rows
       → HasWholeRows m c.wholes.moments (table_of_rows rows)
   pub all_kept : TellsAll c (table_of_rows counted.all)

@@ -2,10 +2,11 @@
 ghost use Rattle.std.specs.Prelude.{◌≡◌, ◌++◌, [], IfOk, OnOk};
 ghost use Rattle.dg_cost_text.specs.Moments.{AddsNoMoment};
 ghost use Rattle.dg_cost_text.specs.Table.{table_of_rows};
-ghost use Rattle.dg_cost.specs.FrameRows.{counted_rows, refused_shares, HasFrameCounts};
+ghost use Rattle.dg_cost.specs.FrameRows.{counted_rows, refused_shares, outside_shares, refused_outside_shares};
+ghost use Rattle.dg_cost.specs.FrameRows.{HasFrameCounts};
 
 use dg_cost_text::{Part, Rows};
-use dg_events::{FAULTS, FrameCounts, SENT_KINDS};
+use dg_events::{FAULTS, FrameCounts, OutsideCounts, SENT_KINDS};
 use dg_meter::Share;
 use dg_mote_cost::{ANSWERS, FRAMES, HotCost, MOTES, MoteCost, PACKET, narrow, share_of};
 use std::alloc::{AllocError, Global};
@@ -26,6 +27,22 @@ fn push_refused(rows: &mut Rows, shares: &[Share; 5]) -> Result<(), AllocError>
     ensures { OnOk result (table_of_rows rows.new ≡ table_of_rows rows.old ++ refused_shares shares.now) }
 {
     rows.shares("refused.frame.", &FAULTS, shares)?;
+    Ok(())
+}
+
+/// So many frames that came to a mote from outside, by kind, with their bytes.
+fn push_outside(rows: &mut Rows, shares: &[Share; 5]) -> Result<(), AllocError>
+    ensures { OnOk result (table_of_rows rows.new ≡ table_of_rows rows.old ++ outside_shares shares.now) }
+{
+    rows.shares("outside.", &FRAMES, shares)?;
+    Ok(())
+}
+
+/// Those of them that it refused, by cause, with their bytes.
+fn push_refused_outside(rows: &mut Rows, shares: &[Share; 5]) -> Result<(), AllocError>
+    ensures { OnOk result (table_of_rows rows.new ≡ table_of_rows rows.old ++ refused_outside_shares shares.now) }
+{
+    rows.shares("refused.outside.", &FAULTS, shares)?;
     Ok(())
 }
 
@@ -100,7 +117,6 @@ fn answer_rows(
     ensures { IfOk result (λ rows. AddsNoMoment [] (table_of_rows rows)) }
 {
     let mut rows = Rows::new(alloc);
-    rows.shares("refused.outside.", &FAULTS, &cost.refused_outside)?;
     rows.each("answer.", &ANSWERS, &hot.answers, "")?;
     push_neighbours(&mut rows, hot)?;
     push_packets(&mut rows, cost, hot, frames)?;
@@ -113,16 +129,18 @@ pub fn frame_rows(
     cost: &MoteCost,
     hot: &HotCost,
     frames: &FrameCounts,
+    outside: &OutsideCounts,
 ) -> Result<Rows, AllocError>
-    ensures frames { IfOk result (λ rows. HasFrameCounts frames.now (table_of_rows rows)) }
+    ensures frames { IfOk result (λ rows. HasFrameCounts frames.now outside.now (table_of_rows rows)) }
     ensures moments { IfOk result (λ rows. AddsNoMoment [] (table_of_rows rows)) }
 {
     let mut rows = Rows::new(alloc);
     push_kinds(&mut rows, "sent.", &frames.sent)?;
     rows.append(unheard_rows(alloc, hot, frames)?)?;
     push_kinds(&mut rows, "heard.", &frames.heard)?;
-    rows.shares("outside.", &FRAMES, &cost.outside)?;
+    push_outside(&mut rows, &outside.came)?;
     push_refused(&mut rows, &frames.refused)?;
+    push_refused_outside(&mut rows, &outside.refused)?;
     rows.append(answer_rows(alloc, cost, hot, frames)?)?;
     Ok(rows)
 }

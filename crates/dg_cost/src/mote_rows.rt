@@ -8,7 +8,7 @@ ghost use Rattle.dg_count.specs.Ended.{counts_at};
 ghost use Rattle.dg_cost.specs.Counting.{IsCountOf, ended_of};
 ghost use Rattle.dg_events.specs.Uptimes.{never_on};
 ghost use Rattle.dg_cost.specs.EventRows.{rows_of_events, rows_of_starts, rows_of_images, HasCounts, HasRows};
-ghost use Rattle.dg_events.specs.FrameCounters.{no_frames};
+ghost use Rattle.dg_events.specs.FrameCounters.{no_frames, no_outside};
 ghost use Rattle.dg_cost.specs.FrameRows.{HasFrameCounts};
 ghost use Rattle.dg_cost.specs.MomentRows.{HasMoments, SumsNoMoment, TellsAll};
 ghost use Rattle.dg_cost.specs.TimeRows.{rows_of_power, rows_of_moment};
@@ -19,7 +19,7 @@ use crate::moment_rows::{push_all_moments, push_wholes};
 use dg_base::Status;
 use dg_cost_text::{Counted, Moment, Row, Rows, total_of};
 use dg_count::{Counter, EventPlace};
-use dg_events::{CAUSES, EVENTS, EventCounts, FrameCounts, SENT_KINDS, Uptime, Uptimes};
+use dg_events::{CAUSES, EVENTS, EventCounts, FrameCounter, SENT_KINDS, Uptime, Uptimes};
 use dg_meter::Share;
 use dg_moments::Wholes;
 use dg_mote_cost::{HotCost, MoteCost, share_of};
@@ -111,20 +111,23 @@ fn mote_rows(
     cost: &MoteCost,
     hot: &HotCost,
     events: &EventCounts,
-    frames: &FrameCounts,
+    frames: &FrameCounter,
     uptime: &Uptime,
     ms: u64,
     wholes: &Wholes,
 ) -> Result<Rows, AllocError>
     ensures counts { IfOk result (λ rows. HasCounts events.now (table_of_rows rows)) }
     ensures power { IfOk result (λ rows. HasRows (rows_of_power uptime.now ms) (table_of_rows rows)) }
-    ensures frames { IfOk result (λ rows. HasFrameCounts frames.now (table_of_rows rows)) }
+    ensures frames { IfOk result (λ rows. HasFrameCounts (slice_index_or frames.now.motes mote no_frames)
+        (slice_index_or frames.now.outside mote no_outside) (table_of_rows rows)) }
     ensures moments { IfOk result (λ rows. HasMoments mote wholes.now.moments rows) }
 {
+    let counts = frames.at(mote);
+    let outside = frames.outside_at(mote);
     let mut rows = Rows::new(alloc);
     push_power(&mut rows, uptime, ms)?;
     push_events(&mut rows, events)?;
-    rows.append(frame_rows(alloc, cost, hot, frames)?)?;
+    rows.append(frame_rows(alloc, cost, hot, &counts, &outside)?)?;
     push_starts(&mut rows, events)?;
     rows.append(failed_rows(alloc, cost)?)?;
     push_images(&mut rows, events)?;
@@ -256,7 +259,8 @@ fn rows_of_motes(
     ensures power { IfOk result (λ motes. (m : ℕ) (rows : Rows) → slice_get motes.items m ≡ Some rows
         → HasRows (rows_of_power (slice_index_or times.now.motes m never_on) times.now.ms) (table_of_rows rows)) }
     ensures frames { IfOk result (λ motes. (m : ℕ) (rows : Rows) → slice_get motes.items m ≡ Some rows
-        → HasFrameCounts (slice_index_or counter.now.frames.motes m no_frames) (table_of_rows rows)) }
+        → HasFrameCounts (slice_index_or counter.now.frames.motes m no_frames)
+        (slice_index_or counter.now.frames.outside m no_outside) (table_of_rows rows)) }
     ensures moments { IfOk result (λ motes. (m : ℕ) (rows : Rows) → slice_get motes.items m ≡ Some rows
         → HasMoments m counter.now.wholes.moments rows) }
 {
@@ -265,11 +269,11 @@ fn rows_of_motes(
         let cost = counter.costs.of(mote);
         let events = counter.events_at(ended, mote);
         let hot = counter.costs.hot_of(mote);
-        let frames = counter.frames.at(mote);
+        let frames = &counter.frames;
         let uptime = times.at(mote);
         let wholes = &counter.wholes;
         let rows = mote_rows(
-            alloc, mote, &cost, &hot, &events, &frames, &uptime, times.ms, wholes,
+            alloc, mote, &cost, &hot, &events, frames, &uptime, times.ms, wholes,
         )?;
         motes.push(rows)?;
     }

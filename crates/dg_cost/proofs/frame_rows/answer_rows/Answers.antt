@@ -1,7 +1,6 @@
 use Rattle.std.proofs.Common.{[], ◌∷◌, ℕ, List, refl}
 use Rattle.std.specs.Prelude.{codes}
-use Rattle.dg_events.specs.RefusedFrames.{fault_names}
-use Rattle.dg_cost_text.proofs.MomentLemmas.{none_yet, then_none, named_then, shared_then}
+use Rattle.dg_cost_text.proofs.MomentLemmas.{none_yet, then_none, named_then}
 use Rattle.dg_cost.proofs.frame_rows.answer_rows.Goals as goal
 
 abbrev answers : List (List ℕ)
@@ -11,7 +10,5 @@ answers =
 
 pub returns : goal.returns
 returns c =
-    let refused =
-    shared_then (codes "refused.outside.") fault_names c.args.cost.now.refused_outside (none_yet c.new-rows.ensures) c.in_ok-shares.ensures (λ rest. refl) in
-    let answered = named_then (codes "answer.") [] answers c.args.hot.now.answers refused c.in_ok-each.ensures (λ rest. refl) in
+    let answered = named_then (codes "answer.") [] answers c.args.hot.now.answers (none_yet c.new-rows.ensures) c.in_ok-each.ensures (λ rest. refl) in
     then_none (then_none answered c.in_ok-push_neighbours.ensures) c.in_ok-push_packets.ensures

@@ -8,8 +8,7 @@ use Rattle.dg_cost_text.specs.declared.rows.Rows.{Rows}
 use Rattle.dg_count.specs.Ended.{counts_at}
 use Rattle.dg_cost.specs.EventRows.{HasCounts, HasRows}
 use Rattle.dg_cost.specs.TimeRows.{rows_of_power}
-use Rattle.dg_events.specs.FrameCounters.{no_frames}
-use Rattle.dg_events.specs.declared.frame_counter.FrameCounts.{FrameCounts}
+use Rattle.dg_events.specs.FrameCounters.{no_frames, no_outside}
 use Rattle.dg_cost.specs.FrameRows.{HasFrameCounts}
 use Rattle.dg_cost.specs.MomentRows.{HasMoments}
 use Rattle.dg_cost.proofs.RowLemmas.{each_pushed}
@@ -27,14 +26,14 @@ loop-mote-preserved c =
     subst (λ (e : EventCounts). HasCounts e table) c.events_at-events.ensures c.in_ok-rows.ensures.counts in
     let power : HasRows (rows_of_power (slice_index_or c.args.times.now.motes i never_on) c.args.times.now.ms) table =
     subst (λ (u : Uptime). HasRows (rows_of_power u c.args.times.now.ms) table) c.at-uptime.ensures c.in_ok-rows.ensures.power in
-    let frames : HasFrameCounts (slice_index_or c.args.counter.now.frames.motes i no_frames) table =
-    subst (λ (f : FrameCounts). HasFrameCounts f table) c.at-frames.ensures c.in_ok-rows.ensures.frames in (
+    let frames : HasFrameCounts (slice_index_or c.args.counter.now.frames.motes i no_frames) (slice_index_or c.args.counter.now.frames.outside i no_outside) table =
+    c.in_ok-rows.ensures.frames in (
       ap length items ∙ length-append motes (rows ∷ []) ∙ ap (λ (n : ℕ). n + 1) before.0,
       each_pushed (λ (m : ℕ) (r : Rows). HasCounts (counts_at c.args.ended c.args.counter.now.events m) (table_of_rows r)) motes
           c.push.new.self.items rows i items before.0 before.1 counts,
       each_pushed (λ (m : ℕ) (r : Rows). HasRows (rows_of_power (slice_index_or c.args.times.now.motes m never_on) c.args.times.now.ms) (table_of_rows r))
           motes c.push.new.self.items rows i items before.0 before.2 power,
-      each_pushed (λ (m : ℕ) (r : Rows). HasFrameCounts (slice_index_or c.args.counter.now.frames.motes m no_frames) (table_of_rows r)) motes
+      each_pushed (λ (m : ℕ) (r : Rows). HasFrameCounts (slice_index_or c.args.counter.now.frames.motes m no_frames) (slice_index_or c.args.counter.now.frames.outside m no_outside) (table_of_rows r)) motes
           c.push.new.self.items rows i items before.0 before.3 frames,
       each_pushed (λ (m : ℕ) (r : Rows). HasMoments m c.args.counter.now.wholes.moments r) motes c.push.new.self.items rows i items before.0 before.4
           c.in_ok-rows.ensures.moments,
