@@ -2,11 +2,10 @@
 #![tactic(auto)]
 
 use dg_base::{Clock, Sink, Source, Status};
-use dg_cli::flash_names;
 use dg_link::Link;
 use dg_nor::Board;
 use dg_shell::{Commands, run_program};
-use std::alloc::{AllocError, Global};
+use std::alloc::Global;
 use std::process::ExitCode;
 
 /// The commands of the program.
@@ -14,10 +13,6 @@ use std::process::ExitCode;
 struct Deluge;
 
 impl Commands for Deluge {
-    fn names(&self, alloc: Global, words: &Vec<String>) -> Result<Vec<String>, AllocError> {
-        flash_names(alloc, words)
-    }
-
     fn run<S: Source, K: Sink, L: Link, C: Clock>(
         &self,
         alloc: Global,

@@ -10,7 +10,7 @@ use dg_link::{FailLink, Link};
 use dg_nor::{Board, Nor};
 use dg_rows::{Runner, play};
 use dg_shell::Commands;
-use std::alloc::{AllocError, Global};
+use std::alloc::Global;
 use std::{env, fs};
 
 /// The program.
@@ -33,10 +33,6 @@ impl Runner for Deluge {
 }
 
 impl Commands for Deluge {
-    fn names(&self, alloc: Global, words: &Vec<String>) -> Result<Vec<String>, AllocError> {
-        dg_cli::flash_names(alloc, words)
-    }
-
     fn run<S: Source, K: Sink, L: Link, C: Clock>(
         &self,
         alloc: Global,

@@ -7,6 +7,7 @@ use crate::opening::chips;
 use crate::telling::{Ended, exit_code, tell, without_memory};
 use crate::words::words;
 use dg_base::{Clock, Sink, Source};
+use dg_command::flash_names;
 use dg_messages::{Input, Output};
 use dg_net::{SystemClock, UdpLink};
 use dg_nor::{Board, FileFault};
@@ -17,27 +18,29 @@ fn fault_at(boards: &[Board], chip: Option<usize>) -> Option<FileFault> {
     boards.get(chip?)?.file_fault()
 }
 
-/// Runs the command of these words over an input, an output and a clock, chips in the files with these names or in memory, and
+/// Runs the command of these words over an input, an output and a clock, chips in the files that they name or in memory, and
 /// sockets of this machine. The guard is held while files of chips are open. None where memory runs out.
 fn run_words<M: Commands, S: Source, K: Sink, C: Clock>(
     rt: &HostRuntime,
     _guard: &Guard,
     commands: &M,
     words: &Vec<String>,
-    names: &Vec<String>,
     input: &mut S,
     out: &mut K,
     clock: &mut C,
 ) -> Option<Ended> {
-    let mut boards = chips(rt, words, names)?;
-    note_volume(rt, words, names, &mut boards);
+    let names = flash_names(rt.alloc(), words).ok()?;
+    let mut boards = chips(rt, words, &names)?;
+    note_volume(rt, words, &names, &mut boards);
     let mut link = UdpLink::new(rt, rt.alloc());
     let status = commands.run(rt.alloc(), words, input, out, &mut boards, &mut link, clock);
     let chip = first_chip(rt, status, &mut boards);
+    let file = fault_at(&boards, chip);
     Some(Ended {
+        names,
         status,
         chip,
-        file: fault_at(&boards, chip),
+        file,
         link: link.cause(),
     })
 }
@@ -53,10 +56,7 @@ pub fn answer<M: Commands, S: Source, K: Sink, C: Clock>(
     clock: &mut C,
 ) -> ExitCode {
     let guard = Guard::new(rt);
-    let Ok(names) = commands.names(rt.alloc(), words) else {
-        return without_memory(rt);
-    };
-    match run_words(rt, &guard, commands, words, &names, input, out, clock) {
+    match run_words(rt, &guard, commands, words, input, out, clock) {
         Some(ended) => exit_code(ended.status),
         None => without_memory(rt),
     }
@@ -70,17 +70,14 @@ pub fn run_program<M: Commands>(rt: &HostRuntime, commands: &M) -> ExitCode {
     let Some(words) = words(rt) else {
         return without_memory(rt);
     };
-    let Ok(names) = commands.names(rt.alloc(), &words) else {
-        return without_memory(rt);
-    };
     let mut input = Input::new(rt.stdin());
     let mut out = Output::new(rt.stdout());
     note_waiting(rt, &words);
     let Some(ended) = run_words(
-        rt, &guard, commands, &words, &names, &mut input, &mut out, &mut clock,
+        rt, &guard, commands, &words, &mut input, &mut out, &mut clock,
     ) else {
         return without_memory(rt);
     };
-    tell(rt, &words, &names, &ended, &input, &out);
+    tell(rt, &words, &ended, &input, &out);
     exit_code(ended.status)
 }

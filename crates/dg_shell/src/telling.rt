@@ -15,10 +15,11 @@ use std::process::ExitCode;
 /// The program.
 const PROGRAM: &str = "deluge";
 
-/// How a command ended, the chip that its status is about, by its number among those that are named, why its file is gone, and
-/// why a call of its link failed.
+/// How a command ended, the files that it named, the chip that its status is about, by its number among these, why its file is
+/// gone, and why a call of its link failed.
 #[derive(Drop)]
 pub(crate) struct Ended {
+    pub(crate) names: Vec<String>,
     pub(crate) status: Status,
     pub(crate) chip: Option<usize>,
     pub(crate) file: Option<FileFault>,
@@ -29,7 +30,6 @@ pub(crate) struct Ended {
 pub(crate) fn tell<R: Read, W: Write>(
     rt: &HostRuntime,
     words: &[String],
-    names: &[String],
     ended: &Ended,
     input: &Input<R>,
     out: &Output<W>,
@@ -41,16 +41,16 @@ pub(crate) fn tell<R: Read, W: Write>(
     let causes = Causes {
         misuse: misuse_told(words, &wrong),
         reads: what_is_read(words),
-        in_memory: names.is_empty(),
+        in_memory: ended.names.is_empty(),
         file: ended.file,
         named_twice: ended
             .chip
-            .is_some_and(|chip| is_named_before(rt, names, chip)),
+            .is_some_and(|chip| is_named_before(rt, &ended.names, chip)),
         input: input.fault(),
         output: out.fault(),
         link: ended.link,
     };
-    let _ = tell_by(rt, words, names, ended, out.last_line(), &causes);
+    let _ = tell_by(rt, words, ended, out.last_line(), &causes);
 }
 
 /// What a command reads, as far as its causes depend on that.
@@ -92,7 +92,6 @@ fn misuse_told<'a>(words: &'a [String], wrong: &'a Option<String>) -> Misuse<'a>
 fn tell_by(
     rt: &HostRuntime,
     words: &[String],
-    names: &[String],
     ended: &Ended,
     last: &[u8],
     causes: &Causes<'_>,
@@ -102,7 +101,7 @@ fn tell_by(
             rt.alloc(),
             PROGRAM,
             verb_of(words, ended),
-            place_of(names, ended),
+            place_of(ended),
             &told,
         )?;
         if let Ok(line) = str::from_utf8(&line) {
@@ -121,9 +120,9 @@ fn verb_of<'a>(words: &'a [String], ended: &Ended) -> &'a str {
 }
 
 /// The file of the chip that a status is about, or nothing if there is none.
-fn place_of<'a>(names: &'a [String], ended: &Ended) -> &'a str {
+fn place_of(ended: &Ended) -> &str {
     match ended.chip {
-        Some(chip) => names.get(chip).map_or("", |name| name.as_str()),
+        Some(chip) => ended.names.get(chip).map_or("", |name| name.as_str()),
         None => "",
     }
 }
