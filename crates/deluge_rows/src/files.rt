@@ -1,10 +1,12 @@
-//! What rows do not show: exit statuses, chips in files, and services over sockets of this machine.
+//! What rows do not show: exit statuses, texts of help, chips in files and in memory, and services over sockets of this machine.
 ghost use Rattle.std.specs.Prelude.{◌<◌};
 
 use crate::Deluge;
-use dg_base::{MemSink, MemSource, Status, StepClock};
+use dg_base::{Clock, MemSink, MemSource, Sink, Source, Status, StepClock};
+use dg_link::Link;
 use dg_nor::{Board, program_in};
-use dg_shell::{Guard, answer, exit_code};
+use dg_shell::{Commands, Guard, answer, exit_code, run_program};
+use std::alloc::Global;
 use std::net::{IpAddr, Ipv4Addr, SocketAddr, UdpSocket};
 use std::process::ExitCode;
 use std::{env, fs, io, process};
@@ -36,8 +38,9 @@ const FORMATTING: &str = "format --name base --used 0";
 /// The words of an injection.
 const INJECTING: &str = "inject --image 1 --ver 1 --name blink";
 
-/// The words of the other commands over one chip, and their input.
-const OTHERS: [(&str, &str); 9] = [
+/// The words of the other commands over one chip, `serve` aside, and their input.
+const OTHERS: [(&str, &str); 10] = [
+    ("replay", "motes 1\nboards\n"),
     ("inject --image 1 --ver 1 --name blink", GOLDEN),
     ("order --number 1 --image 1 --ver 1", ""),
     ("boot", ""),
@@ -54,6 +57,20 @@ const OTHERS: [(&str, &str); 9] = [
     ),
     ("base --id 0 --step 500 --seed 0", ""),
 ];
+
+/// The first words of the commands.
+const VERBS: [&str; 15] = [
+    "replay", "serve", "format", "inject", "order", "boot", "ping", "dump", "migrate", "trial",
+    "wrap", "drip", "check", "receive", "base",
+];
+
+/// The script of two motes whose chips are left as they are, and its report where the first chip alone keeps an image.
+const TWO_CHIPS: &str = "motes 2\nboards\n";
+
+const FIRST_KEEPS: &str = "end 0\nmote 0 off\nkept 0 1 1 2\nmote 1 off\n";
+
+/// The script of as many motes as there may be.
+const ALL_MOTES: &str = "motes 16\ngolden base 0 hex:41\n";
 
 /// More bytes than an answer of these checks has.
 const AMPLE: usize = 100_000;
@@ -83,6 +100,14 @@ pub(crate) fn check_all(rt: &HostRuntime) -> anyhow::Result<Checks> {
     let mut checks = Checks { right: 0, wrong: 0 };
     checks.note(rt, are_exit_codes(), "each status is an exit code")?;
     checks.note(rt, Guard::new(rt).is_whole(), "a file for each stream")?;
+    checks.note(rt, ends_as_its_command(rt), "a program's exit status")?;
+    checks.note(rt, help_is_of_its_command(rt)?, "the help of each command")?;
+    checks.note(
+        rt,
+        has_a_chip_for_each_mote(rt)?,
+        "a chip in memory for each mote",
+    )?;
+    checks.note(rt, takes_files_in_order(rt)?, "the order of files")?;
     checks.note(
         rt,
         only_format_makes_a_file(rt)?,
@@ -134,14 +159,84 @@ fn ends(rt: &HostRuntime, verb: &str, name: &str, text: &str, code: u8) -> anyho
     Ok(end == ExitCode::from(code))
 }
 
+/// Commands that all end as a start without an image does.
+#[derive(Clone, Copy)]
+struct Imageless;
+
+impl Commands for Imageless {
+    fn run<S: Source, K: Sink, L: Link, C: Clock>(
+        &self,
+        _alloc: Global,
+        _words: &Vec<String>,
+        _input: &mut S,
+        _out: &mut K,
+        _boards: &mut Vec<Board>,
+        _link: &mut L,
+        _clock: &mut C,
+    ) -> Status {
+        Status::NoImage
+    }
+}
+
+/// Whether a program ends in the status of its command, and says on standard error alone why.
+fn ends_as_its_command(rt: &HostRuntime) -> bool {
+    run_program(rt, &Imageless) == ExitCode::from(13)
+}
+
+/// Whether the help of the program has a line of each command, and that of each command an example of it.
+fn help_is_of_its_command(rt: &HostRuntime) -> anyhow::Result<bool> {
+    let (end, text) = answered(rt, "--help", b"")?;
+    let mut right = end == ExitCode::SUCCESS;
+    for verb in VERBS {
+        let line = format!(in rt.alloc(); "\n  {verb} ")?;
+        right = str::from_utf8(&text)?.contains(line.as_str()) && right;
+        right = has_an_example(rt, verb)? && right;
+    }
+    Ok(right)
+}
+
+/// Whether the help of a command has an example of it.
+fn has_an_example(rt: &HostRuntime, verb: &str) -> anyhow::Result<bool> {
+    let words = format!(in rt.alloc(); "{verb} --help")?;
+    let (end, text) = answered(rt, words.as_str(), b"")?;
+    let example = format!(in rt.alloc(); "\nExample: deluge {verb}")?;
+    Ok(end == ExitCode::SUCCESS && str::from_utf8(&text)?.contains(example.as_str()))
+}
+
+/// Whether a command that names no file has a chip in memory for each mote that there may be.
+fn has_a_chip_for_each_mote(rt: &HostRuntime) -> anyhow::Result<bool> {
+    let (end, _) = answered(rt, "replay", ALL_MOTES.as_bytes())?;
+    Ok(end == ExitCode::SUCCESS)
+}
+
+/// Whether the chips of a command are those of its files, in their order.
+fn takes_files_in_order(rt: &HostRuntime) -> anyhow::Result<bool> {
+    let folder = new_folder(rt, "order")?;
+    let folder = folder.as_str();
+    let mut right = make_chip(rt, folder, "a", true)?;
+    right = make_chip(rt, folder, "b", false)? && right;
+    let replay = format!(in rt.alloc(); "replay {folder}/a {folder}/b")?;
+    let (end, report) = answered(rt, replay.as_str(), TWO_CHIPS.as_bytes())?;
+    right = end == ExitCode::SUCCESS && report.as_slice() == FIRST_KEEPS.as_bytes() && right;
+    fs::remove_dir_all(rt, folder)?;
+    Ok(right)
+}
+
+/// Whether a command whose file is missing ends in status 6, and makes no file.
+fn makes_no_file(rt: &HostRuntime, verb: &str, name: &str, text: &str) -> anyhow::Result<bool> {
+    Ok(ends(rt, verb, name, text, 6)? && !fs::exists(rt, name)?)
+}
+
 /// Whether no command but `format` makes the file that it names.
 fn only_format_makes_a_file(rt: &HostRuntime) -> anyhow::Result<bool> {
     let folder = new_folder(rt, "missing")?;
     let name = format!(in rt.alloc(); "{folder}/chip")?;
     let name = name.as_str();
-    let mut right = true;
+    let port = free_port(rt);
+    let one_mote = format!(in rt.alloc(); "motes = 1\nport = {port}\nlinks = []\n")?;
+    let mut right = makes_no_file(rt, "serve --turns 1 --seed 0", name, one_mote.as_str())?;
     for (verb, text) in OTHERS {
-        right = ends(rt, verb, name, text, 6)? && !fs::exists(rt, name)? && right;
+        right = makes_no_file(rt, verb, name, text)? && right;
     }
     right = ends(rt, FORMATTING, name, GOLDEN, 0)? && right;
     right = fs::read(rt, name)?.len() == 1_085_440 && right;
