@@ -175,40 +175,57 @@ fn wide_advert() -> Message {
     }
 }
 
+/// Why a frame is refused, or None if it is read.
+fn fault(frame: &[u8], wide: bool) -> Option<FrameFault> {
+    read(frame, wide).err()
+}
+
+/// The same, with one byte changed.
+fn fault_with(frame: &[u8], at: usize, byte: u8) -> Option<FrameFault> {
+    let mut changed = Frame::new();
+    let _ = changed.try_extend_from_slice(frame);
+    if let Some(place) = changed.get_mut(at) {
+        *place = byte;
+    }
+    fault(changed.as_slice(), true)
+}
+
 #[test]
 fn a_wide_advert_is_read_by_wide_readers(rt: HostRuntime) {
     assert!(rt; read(&WIDE, true) == Ok(wide_advert()));
-    assert_eq!(rt; read(&WIDE, false).err(), Some(FrameFault::Kind));
-    assert_eq!(rt; read(&WIDE[..61], true).err(), Some(FrameFault::Length));
-    assert_eq!(rt; read(&WIDE[..5], true).err(), Some(FrameFault::Length));
-    assert_eq!(rt; read(&WIDE[..5], false).err(), Some(FrameFault::Kind));
-    assert_eq!(rt; read(&WIDE[..4], false).err(), Some(FrameFault::Short));
-    let mut turned = WIDE;
-    turned[0] = 5;
-    assert_eq!(rt; read(&turned, true).err(), Some(FrameFault::Kind));
-    turned[0] = 4;
-    turned[43] = 0;
-    assert_eq!(rt; read(&turned, true).err(), Some(FrameFault::Check));
+    for (frame, wide, wanted) in [
+        (&WIDE[..], false, FrameFault::Kind),
+        (&WIDE[..61], true, FrameFault::Length),
+        (&WIDE[..5], true, FrameFault::Length),
+        (&WIDE[..5], false, FrameFault::Kind),
+        (&WIDE[..4], false, FrameFault::Short),
+    ] {
+        assert_eq!(rt; fault(frame, wide), Some(wanted), "{frame:?}");
+    }
+    assert_eq!(rt; fault_with(&WIDE, 0, 5), Some(FrameFault::Kind));
+    assert_eq!(rt; fault_with(&WIDE, 43, 0), Some(FrameFault::Check));
 }
 
 #[test]
 fn lengths_are_looked_at(rt: HostRuntime) -> Result<(), Fail> {
-    assert_eq!(rt; read(&PACKET, false).err(), None);
-    assert_eq!(rt; read(&PACKET[..4], true).err(), Some(FrameFault::Short));
-    assert_eq!(rt; read(&PACKET[..5], true).err(), Some(FrameFault::Length));
-    assert_eq!(rt; read(&PACKET[..34], true).err(), Some(FrameFault::Length));
-    assert_eq!(rt; read(&PACKET[1..6], true).err(), Some(FrameFault::Kind));
     let mut longer = Frame::new();
     longer.try_extend_from_slice(&PACKET)?;
     longer.try_push(0)?;
     assert_eq!(rt; longer.len(), 36);
+    for (frame, wide, wanted) in [
+        (&PACKET[..], false, None),
+        (&PACKET[..4], true, Some(FrameFault::Short)),
+        (&PACKET[..5], true, Some(FrameFault::Length)),
+        (&PACKET[..34], true, Some(FrameFault::Length)),
+        (&PACKET[1..6], true, Some(FrameFault::Kind)),
+        (longer.as_slice(), false, Some(FrameFault::Length)),
+    ] {
+        assert_eq!(rt; fault(frame, wide), wanted, "{frame:?}");
+    }
     assert_eq!(rt;
-        read(longer.as_slice(), false).err(),
-        Some(FrameFault::Length)
+        fault_with(&PACKET, 12, PACKET[12] ^ 1),
+        Some(FrameFault::Check)
     );
-    let mut turned = PACKET;
-    turned[12] ^= 1;
-    assert_eq!(rt; read(&turned, true).err(), Some(FrameFault::Check));
     Ok(())
 }
 

@@ -2,7 +2,7 @@
 use base64::DecodeError;
 use dg_sign::{KeyTextFault, read_key};
 use dg_xmss::{KeyFault, PublicKey};
-use std::alloc::Global;
+use std::alloc::{AllocError, Global};
 use std::test::Fail;
 
 /// What `botan pkcs8 --pub-out` wrote.
@@ -61,46 +61,65 @@ fn read(alloc: Global, text: &[u8]) -> Result<PublicKey, KeyTextFault> {
     read_key(alloc, text)
 }
 
+/// The bytes of a key, with the parameter set of this number.
+fn bytes_of(alloc: Global, key: &PublicKey, set: u8) -> Result<Vec<u8>, AllocError> {
+    let mut bytes = Vec::new(alloc);
+    bytes.extend_from_slice(&[0, 0, 0, set])?;
+    bytes.extend_from_slice(key.root.as_slice())?;
+    bytes.extend_from_slice(key.seed.as_slice())?;
+    Ok(bytes)
+}
+
 #[test]
 fn a_key_has_three_forms(rt: HostRuntime) -> Result<(), Fail> {
     let alloc = rt.alloc();
-    let key = read(alloc, PEM);
-    assert!(rt; key.is_ok());
-    assert_eq!(rt; read(alloc, &PEM[..173]), key);
-    assert_eq!(rt; read(alloc, DIGITS), key);
-    assert_eq!(rt; read(alloc, &DIGITS[..136]), key);
-    let mut raw = Vec::new(alloc);
-    raw.extend_from_slice(&[0, 0, 0, 1])?;
-    let root_and_seed = key.ok().ok_or("the key")?;
-    raw.extend_from_slice(root_and_seed.root.as_slice())?;
-    raw.extend_from_slice(root_and_seed.seed.as_slice())?;
-    assert_eq!(rt; read(alloc, &raw), Ok(root_and_seed));
-    assert_eq!(rt; root_and_seed.root[..4], [0x56, 0x0c, 0x43, 0x56][..]);
-    raw[3] = 2;
-    let other = KeyFault::ParameterSet { number: 2 };
-    assert_eq!(rt; read(alloc, &raw), Err(KeyTextFault::Key(other)));
+    let key = read(alloc, PEM).ok().ok_or("the key")?;
+    assert_eq!(rt; key.root[..4], [0x56, 0x0c, 0x43, 0x56][..]);
+    let raw = bytes_of(alloc, &key, 1)?;
+    assert_eq!(rt; read(alloc, &raw), Ok(key));
+    for text in [&PEM[..173], &DIGITS[..], &DIGITS[..136]] {
+        assert_eq!(rt; read(alloc, text), Ok(key));
+    }
+    let other = bytes_of(alloc, &key, 2)?;
+    let fault = KeyFault::ParameterSet { number: 2 };
+    assert_eq!(rt; read(alloc, &other), Err(KeyTextFault::Key(fault)));
     Ok(())
+}
+
+/// A text in which one byte is changed.
+fn changed(alloc: Global, text: &[u8], at: usize, byte: u8) -> Result<Vec<u8>, AllocError> {
+    let mut changed = Vec::from_slice(alloc, text)?;
+    if let Some(place) = changed.get_mut(at) {
+        *place = byte;
+    }
+    Ok(changed)
 }
 
 #[test]
 fn what_differs_is_no_key(rt: HostRuntime) -> Result<(), Fail> {
     let alloc = rt.alloc();
     for (at, byte, fault) in CHANGED {
-        let mut text = Vec::from_slice(alloc, PEM)?;
-        if let Some(place) = text.get_mut(at) {
-            *place = byte;
-        }
+        let text = changed(alloc, PEM, at, byte)?;
         assert_eq!(rt; read(alloc, &text), Err(fault), "{at}");
     }
-    assert_eq!(rt; read(alloc, b""), Err(KeyTextFault::Pem { at: 0 }));
-    assert_eq!(rt; read(alloc, &PEM[..50]), Err(KeyTextFault::Pem { at: 50 }));
-    assert_eq!(rt; read(alloc, &PEM[1..]), Err(KeyTextFault::Pem { at: 4 }));
-    assert_eq!(rt; read(alloc, &DIGITS[1..]), Err(KeyTextFault::Pem { at: 0 }));
-    let mut digits = Vec::from_slice(alloc, DIGITS)?;
-    digits.push(b'\n')?;
-    assert_eq!(rt; read(alloc, &digits), Err(KeyTextFault::Pem { at: 0 }));
-    digits.truncate(136);
-    digits[77] = b'g';
-    assert_eq!(rt; read(alloc, &digits), Err(KeyTextFault::Digit { at: 77 }));
+    let text = changed(alloc, &DIGITS[..136], 77, b'g')?;
+    assert_eq!(rt; read(alloc, &text), Err(KeyTextFault::Digit { at: 77 }));
+    Ok(())
+}
+
+#[test]
+fn what_is_shorter_or_longer_is_no_key(rt: HostRuntime) -> Result<(), Fail> {
+    let alloc = rt.alloc();
+    let mut longer = Vec::from_slice(alloc, DIGITS)?;
+    longer.push(b'\n')?;
+    for (text, at) in [
+        (b"".as_slice(), 0),
+        (&PEM[..50], 50),
+        (&PEM[1..], 4),
+        (&DIGITS[1..], 0),
+        (longer.as_slice(), 0),
+    ] {
+        assert_eq!(rt; read(alloc, text), Err(KeyTextFault::Pem { at }));
+    }
     Ok(())
 }

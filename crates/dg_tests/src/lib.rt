@@ -3,7 +3,11 @@
 #![tactic(auto)]
 
 #[cfg(test)]
+mod carrying;
+#[cfg(test)]
 mod causes;
+#[cfg(test)]
+mod chip_files;
 #[cfg(test)]
 mod chips;
 #[cfg(test)]

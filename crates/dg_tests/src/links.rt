@@ -1,28 +1,54 @@
 //! A link in memory by hand.
+ghost use Rattle.std.specs.Prelude.{◌≡◌};
+
+use crate::carrying::{comes, is_quiet, open, send};
 use dg_base::LONGEST_FRAME;
-use dg_link::{Link, MemLink};
+use dg_link::{Link, LinkFailed, MemLink};
 use std::test::Fail;
+
+/// Three frames to a mote with room for two: whether the next receives find nothing at the other mote, and the last two frames
+/// and nothing else at this one.
+fn overflows<L: Link>(link: &mut L) -> Result<[bool; 4], LinkFailed>
+    requires { L.mote_count link.old ≡ 2 }
+{
+    send(link, 0, 1, b"first")?;
+    send(link, 0, 1, b"second")?;
+    send(link, 1, 1, b"")?;
+    Ok([
+        is_quiet(link, 0)?,
+        comes(link, 1, b"second")?,
+        comes(link, 1, b"")?,
+        is_quiet(link, 1)?,
+    ])
+}
+
+/// Whether the longest frame comes whole.
+fn carries_longest<L: Link>(link: &mut L) -> Result<bool, LinkFailed>
+    requires { L.mote_count link.old ≡ 2 }
+{
+    send(link, 1, 0, &[7; LONGEST_FRAME])?;
+    comes(link, 0, &[7; LONGEST_FRAME])
+}
 
 #[test]
 fn a_full_inbox_loses_the_oldest_frame(rt: HostRuntime) -> Result<(), Fail> {
     let alloc = rt.alloc();
     let mut link = MemLink::new(alloc, 2);
-    let mut into = [0; LONGEST_FRAME];
-    link.open(alloc, 17_000, 2)?;
-    link.send(0, 1, b"first")?;
-    link.send(0, 1, b"second")?;
-    link.send(1, 1, b"")?;
-    assert_eq!(rt; link.receive(0, &mut into)?, None);
-    assert_eq!(rt; link.receive(1, &mut into)?, Some(6));
-    assert_eq!(rt; into[..6], b"second"[..]);
-    assert_eq!(rt; link.receive(1, &mut into)?, Some(0));
-    assert_eq!(rt; link.receive(1, &mut into)?, None);
-    link.send(1, 0, &[7; LONGEST_FRAME])?;
-    assert_eq!(rt; link.receive(0, &mut into)?, Some(LONGEST_FRAME));
-    assert_eq!(rt; into, [7; LONGEST_FRAME]);
-    link.send(1, 0, b"left")?;
-    link.open(alloc, 17_000, 16)?;
-    assert_eq!(rt; link.receive(0, &mut into)?, None);
-    assert_eq!(rt; link.receive(15, &mut into)?, None);
+    open(&mut link, alloc, 17_000, 2)?;
+    assert_eq!(rt; overflows(&mut link)?, [true; 4]);
+    open(&mut link, alloc, 17_000, 2)?;
+    assert!(rt; carries_longest(&mut link)?);
+    Ok(())
+}
+
+#[test]
+fn a_link_that_is_opened_again_is_empty(rt: HostRuntime) -> Result<(), Fail> {
+    let alloc = rt.alloc();
+    let mut link = MemLink::new(alloc, 2);
+    open(&mut link, alloc, 17_000, 2)?;
+    send(&mut link, 1, 0, b"left")?;
+    open(&mut link, alloc, 17_000, 16)?;
+    assert!(rt; is_quiet(&mut link, 0)?);
+    assert!(rt; is_quiet(&mut link, 15)?);
     Ok(())
 }

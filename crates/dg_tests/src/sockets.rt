@@ -1,7 +1,8 @@
 //! Sockets and the clock of this machine.
-ghost use Rattle.std.specs.Prelude.{◌≡◌, ◌<◌, ◌≤◌, length};
+ghost use Rattle.std.specs.Prelude.{◌≡◌, ◌<◌, ◌≤◌, length, OnOk};
 ghost use Rattle.dg_base.specs.Sizes.{longest_frame};
 
+use crate::carrying::{comes, is_quiet, open, send};
 use dg_base::{Clock, LONGEST_FRAME};
 use dg_link::{Link, LinkFailed, OpenFault};
 use dg_net::{LinkCause, MoteLink, SystemClock, UdpLink, receive_datagram};
@@ -24,29 +25,47 @@ fn free_port<R: Net + Timer>(rt: &R, alloc: Global, process: u32) -> u16
     20_000
 }
 
+/// The same, for this process.
+fn own_port(rt: &HostRuntime) -> u16
+    ensures { result < 65000 }
+{
+    free_port(rt, rt.alloc(), process::id(rt.process()))
+}
+
+/// Sends a datagram to a port of this machine, from a port of the system's choice.
+fn send_from_outside(rt: &HostRuntime, port: u16, bytes: &[u8]) -> Result<(), Fail> {
+    let stranger = UdpSocket::bind(rt, "127.0.0.1:0")?;
+    stranger.send_to(bytes, loopback(port))?;
+    Ok(())
+}
+
+/// Whether nothing comes to a mote at first, and what the other sends comes to it alone.
+fn carries_two<L: Link>(link: &mut L) -> Result<[bool; 4], LinkFailed>
+    requires { L.mote_count link.old ≡ 2 }
+    ensures { OnOk result (L.mote_count link.new ≡ 2) }
+{
+    let before = is_quiet(link, 1)?;
+    send(link, 0, 1, b"hello")?;
+    send(link, 0, 1, b"")?;
+    Ok([
+        before,
+        is_quiet(link, 0)?,
+        comes(link, 1, b"hello")?,
+        comes(link, 1, b"")?,
+    ])
+}
+
 #[test]
 fn datagrams_come_to_their_mote(rt: HostRuntime) -> Result<(), Fail> {
     let alloc = rt.alloc();
-    let port = free_port(&rt, alloc, process::id(rt.process()));
+    let port = own_port(&rt);
     let mut link = UdpLink::new(&rt, alloc);
-    let mut into = [0; LONGEST_FRAME];
-    link.open(alloc, port, 2)?;
-    assert_eq!(rt; link.receive(1, &mut into)?, None);
-    link.send(0, 1, b"hello")?;
-    link.send(0, 1, b"")?;
-    assert_eq!(rt; link.receive(0, &mut into)?, None);
-    assert_eq!(rt; link.receive(1, &mut into)?, Some(5));
-    assert_eq!(rt; into[..5], b"hello"[..]);
-    assert_eq!(rt; link.receive(1, &mut into)?, Some(0));
-    let stranger = UdpSocket::bind(&rt, "127.0.0.1:0")?;
-    stranger.send_to(&[9; 65], loopback(port))?;
-    assert_eq!(rt; link.receive(0, &mut into)?, Some(LONGEST_FRAME));
-    assert_eq!(rt; into, [9; LONGEST_FRAME]);
-    let mut other = UdpLink::new(&rt, alloc);
-    assert_eq!(rt;
-        other.open(alloc, port + 1, 1).err(),
-        Some(OpenFault::LinkFailed)
-    );
+    open(&mut link, alloc, port, 2)?;
+    assert_eq!(rt; carries_two(&mut link)?, [true; 4]);
+    send_from_outside(&rt, port, &[9; 65])?;
+    assert!(rt; comes(&mut link, 0, &[9; LONGEST_FRAME])?);
+    let other = UdpLink::new(&rt, alloc).open(alloc, port + 1, 1);
+    assert_eq!(rt; other, Err(OpenFault::LinkFailed));
     Ok(())
 }
 
@@ -71,7 +90,7 @@ fn frames_come<L: Link>(link: &mut L, turns: u32) -> Result<bool, LinkFailed>
     let mut into = [0; LONGEST_FRAME];
     let mut each = true;
     for _ in 0..turns {
-        link.send(0, 0, b"hello")?;
+        send(link, 0, 0, b"hello")?;
         each = link.receive(0, &mut into)? == Some(5) && each;
     }
     Ok(each)
@@ -86,17 +105,15 @@ fn carries(rt: &HostRuntime, port: u16, from: u16, to: u16, frame: &[u8]) -> Res
 {
     let alloc = rt.alloc();
     let mut link = UdpLink::new(rt, alloc);
-    let mut into = [0; LONGEST_FRAME];
-    link.open(alloc, port, 16)?;
-    link.send(from, to, frame)?;
-    let came = link.receive(to, &mut into)?;
-    Ok(came == Some(frame.len()) && into.get(..frame.len()) == Some(frame))
+    open(&mut link, alloc, port, 16)?;
+    send(&mut link, from, to, frame)?;
+    Ok(comes(&mut link, to, frame)?)
 }
 
 // A frame of each length arrives whole, from and to each mote of the largest network.
 #[test]
 fn frames_of_each_length_come_to_each_mote(rt: HostRuntime) -> Result<(), Fail> {
-    let port = free_port(&rt, rt.alloc(), process::id(rt.process()));
+    let port = own_port(&rt);
     let mut frame = [0; LONGEST_FRAME];
     for k in 0..LONGEST_FRAME {
         frame[k] = k as u8 + 1;
@@ -108,18 +125,25 @@ fn frames_of_each_length_come_to_each_mote(rt: HostRuntime) -> Result<(), Fail> 
     Ok(())
 }
 
+// If a socket listens on all addresses, no other socket can have one of them at its port.
 #[test]
 fn motes_listen_at_the_loopback_address_alone(rt: HostRuntime) -> Result<(), Fail> {
     let alloc = rt.alloc();
-    let port = free_port(&rt, alloc, process::id(rt.process()));
+    let port = own_port(&rt);
     let mut link = UdpLink::new(&rt, alloc);
-    let mut into = [0; LONGEST_FRAME];
-    link.open(alloc, port, 1)?;
-    // if a socket listens on all addresses, no other socket can have one of them at its port
-    let beside = SocketAddr::new(IpAddr::V4(Ipv4Addr::new(127, 0, 0, 2)), port);
-    let stranger = UdpSocket::bind(&rt, beside)?;
+    open(&mut link, alloc, port, 1)?;
+    send_beside(
+        &rt,
+        SocketAddr::new(IpAddr::V4(Ipv4Addr::new(127, 0, 0, 2)), port),
+    )?;
+    assert!(rt; is_quiet(&mut link, 0)?);
+    Ok(())
+}
+
+/// Sends a datagram from an address to itself.
+fn send_beside(rt: &HostRuntime, beside: SocketAddr) -> Result<(), Fail> {
+    let stranger = UdpSocket::bind(rt, beside)?;
     stranger.send_to(b"aside", beside)?;
-    assert_eq!(rt; link.receive(0, &mut into)?, None);
     Ok(())
 }
 
@@ -133,8 +157,8 @@ fn loopback(port: u16) -> SocketAddr {
 fn a_failed_send_is_told(rt: HostRuntime) -> Result<(), Fail> {
     let alloc = rt.alloc();
     let mut link = MoteLink::new(&rt, 0, 1);
-    link.open(alloc, 0, 1)?;
-    assert_eq!(rt; link.send(0, 0, b"hello"), Err(LinkFailed));
+    open(&mut link, alloc, 0, 1)?;
+    assert_eq!(rt; send(&mut link, 0, 0, b"hello"), Err(LinkFailed));
     assert_eq!(rt; link.cause(), Some(LinkCause::Send { port: 0 }));
     Ok(())
 }
@@ -153,110 +177,117 @@ fn a_failed_receive_is_told(rt: HostRuntime) -> Result<(), Fail> {
     Ok(())
 }
 
+/// Whether nothing comes in so many turns of so many motes, and how many milliseconds they last by the clock.
+fn quiet_turns(rt: &HostRuntime, motes: u16, turns: u32) -> Result<(bool, u64), Fail>
+    requires some { 1 ≤ motes }
+    requires most { motes ≤ 16 }
+{
+    let alloc = rt.alloc();
+    let mut clock = SystemClock::new(rt);
+    let port = own_port(rt);
+    let mut link = UdpLink::new(rt, alloc);
+    open(&mut link, alloc, port, motes)?;
+    let before = clock.read();
+    let nothing = nothing_comes(&mut link, motes, turns)?;
+    Ok((nothing, clock.read().saturating_sub(before)))
+}
+
+// The last turn is not waited for; a machine under load makes the others longer.
 #[test]
 fn a_turn_in_which_nothing_comes_lasts_16_milliseconds(rt: HostRuntime) -> Result<(), Fail> {
-    let alloc = rt.alloc();
-    let mut clock = SystemClock::new(&rt);
-    let port = free_port(&rt, alloc, process::id(rt.process()));
-    let mut link = UdpLink::new(&rt, alloc);
-    link.open(alloc, port, 1)?;
-    let before = clock.read();
-    assert!(rt; nothing_comes(&mut link, 1, 50)?);
-    let passed = clock.read().saturating_sub(before);
-    // the last turn is not waited for; a machine under load makes the others longer
+    let (nothing, passed) = quiet_turns(&rt, 1, 50)?;
+    assert!(rt; nothing);
     assert!(rt; 784 <= passed && passed < 4_000, "{passed}");
     Ok(())
 }
 
+// A hundred waits would be 1,584.
 #[test]
 fn a_turn_of_four_motes_is_as_long(rt: HostRuntime) -> Result<(), Fail> {
-    let alloc = rt.alloc();
-    let mut clock = SystemClock::new(&rt);
-    let port = free_port(&rt, alloc, process::id(rt.process()));
-    let mut link = UdpLink::new(&rt, alloc);
-    link.open(alloc, port, 4)?;
-    let before = clock.read();
-    assert!(rt; nothing_comes(&mut link, 4, 25)?);
-    let passed = clock.read().saturating_sub(before);
-    // a hundred waits would be 1,584
+    let (nothing, passed) = quiet_turns(&rt, 4, 25)?;
+    assert!(rt; nothing);
     assert!(rt; 384 <= passed && passed < 1_500, "{passed}");
     Ok(())
 }
 
+/// Whether frames come in so many turns of a mote, and how many milliseconds they last by the clock.
+fn busy_turns(rt: &HostRuntime, turns: u32) -> Result<(bool, u64), Fail> {
+    let alloc = rt.alloc();
+    let mut clock = SystemClock::new(rt);
+    let port = own_port(rt);
+    let mut link = UdpLink::new(rt, alloc);
+    open(&mut link, alloc, port, 1)?;
+    let before = clock.read();
+    let each = frames_come(&mut link, turns)?;
+    Ok((each, clock.read().saturating_sub(before)))
+}
+
 #[test]
 fn a_turn_in_which_a_frame_comes_does_not_wait(rt: HostRuntime) -> Result<(), Fail> {
-    let alloc = rt.alloc();
-    let mut clock = SystemClock::new(&rt);
-    let port = free_port(&rt, alloc, process::id(rt.process()));
-    let mut link = UdpLink::new(&rt, alloc);
-    link.open(alloc, port, 1)?;
-    let before = clock.read();
-    assert!(rt; frames_come(&mut link, 50)?);
-    let passed = clock.read().saturating_sub(before);
+    let (each, passed) = busy_turns(&rt, 50)?;
+    assert!(rt; each);
     assert!(rt; passed < 700, "{passed}");
     Ok(())
 }
 
+// The clock reports what another one does. 63 turns of 16 ms take a second, and 20 longer ones another.
 #[test]
 fn turns_are_longer_where_nothing_came_for_a_second(rt: HostRuntime) -> Result<(), Fail> {
-    let alloc = rt.alloc();
-    let mut clock = SystemClock::new(&rt);
-    let port = free_port(&rt, alloc, process::id(rt.process()));
-    let mut link = UdpLink::new(&rt, alloc);
-    link.open(alloc, port, 1)?;
     let began = Instant::now(&rt)?;
-    let before = clock.read();
-    assert!(rt; nothing_comes(&mut link, 1, 84)?);
-    let passed = clock.read().saturating_sub(before);
-    // the clock reports what another one does
+    let (nothing, passed) = quiet_turns(&rt, 1, 84)?;
     let lasted = u64::try_from(began.elapsed(&rt)?.as_millis()).unwrap_or(0);
+    assert!(rt; nothing);
     assert!(rt;
         passed <= lasted && lasted.saturating_sub(passed) < 500,
         "{lasted}"
     );
-    // 63 turns of 16 ms take a second, and 20 longer ones another
     assert!(rt; 1_960 <= passed && passed < 6_000, "{passed}");
     Ok(())
 }
 
-// Two motes of a network, each over a link of its own: what one sends the other receives. Nothing is received at a
-// mote that is elsewhere, and a send from it fails.
+/// Whether what one mote sends another receives at its own link, where nothing is received at a mote that is elsewhere,
+/// and from which a send fails.
+fn reach<L: Link, M: Link>(first: &mut L, second: &mut M) -> Result<[bool; 4], LinkFailed>
+    requires first { L.mote_count first.old ≡ 3 }
+    requires second { M.mote_count second.old ≡ 3 }
+{
+    send(first, 0, 1, b"hello")?;
+    // nobody listens there, which is not reported
+    send(first, 0, 2, b"hello")?;
+    Ok([
+        is_quiet(second, 0)?,
+        comes(second, 1, b"hello")?,
+        is_quiet(second, 1)?,
+        send(second, 0, 1, b"hello").is_err(),
+    ])
+}
+
+// Two motes of a network, each over a link of its own.
 #[test]
 fn links_of_one_mote_reach_one_another(rt: HostRuntime) -> Result<(), Fail> {
     let alloc = rt.alloc();
-    let port = free_port(&rt, alloc, process::id(rt.process()));
+    let port = own_port(&rt);
     let mut first = MoteLink::new(&rt, 0, 1);
     let mut second = MoteLink::new(&rt, 1, 1);
-    let mut into = [0; LONGEST_FRAME];
-    first.open(alloc, port, 3)?;
-    second.open(alloc, port, 3)?;
-    first.send(0, 1, b"hello")?;
-    // nobody listens there, which is not reported
-    first.send(0, 2, b"hello")?;
-    assert_eq!(rt; second.receive(0, &mut into)?, None);
-    assert_eq!(rt; second.receive(1, &mut into)?, Some(5));
-    assert_eq!(rt; into[..5], b"hello"[..]);
-    assert_eq!(rt; second.receive(1, &mut into)?, None);
-    assert_eq!(rt; second.send(0, 1, b"hello").is_err(), true);
-    let mut other = MoteLink::new(&rt, 1, 1);
-    assert_eq!(rt;
-        other.open(alloc, port, 3).err(),
-        Some(OpenFault::LinkFailed)
-    );
+    open(&mut first, alloc, port, 3)?;
+    open(&mut second, alloc, port, 3)?;
+    assert_eq!(rt; reach(&mut first, &mut second)?, [true; 4]);
+    let other = MoteLink::new(&rt, 1, 1).open(alloc, port, 3);
+    assert_eq!(rt; other, Err(OpenFault::LinkFailed));
     Ok(())
 }
 
+// 49 turns of 2 ms, each of which the clock reports as 8 times as long; a machine under load makes them longer.
 #[test]
 fn a_scaled_turn_is_as_much_shorter(rt: HostRuntime) -> Result<(), Fail> {
     let alloc = rt.alloc();
     let mut clock = SystemClock::scaled(&rt, 8);
-    let port = free_port(&rt, alloc, process::id(rt.process()));
+    let port = own_port(&rt);
     let mut link = MoteLink::new(&rt, 0, 8);
-    link.open(alloc, port, 1)?;
+    open(&mut link, alloc, port, 1)?;
     let before = clock.read();
     assert!(rt; nothing_comes(&mut link, 1, 50)?);
     let passed = clock.read().saturating_sub(before);
-    // 49 turns of 2 ms, each of which the clock reports as 8 times as long; a machine under load makes them longer
     assert!(rt; 776 <= passed && passed < 32_000, "{passed}");
     Ok(())
 }
