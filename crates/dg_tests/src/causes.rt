@@ -1,12 +1,14 @@
 //! The line of some causes. The cause in a last line, and the sentence of each cause, are clauses.
 
-use dg_base::Status;
+use dg_base::{Sink, Status};
 use dg_drip_script::DripFault;
 use dg_messages::{
-    Causes, InputFault, Misuse, OutputFault, Reads, Refused, Told, message, shown, told,
+    Causes, InputFault, Misuse, Output, OutputFault, Reads, Refused, Told, message, shown, told,
 };
 use dg_net::LinkCause;
 use dg_nor::FileFault;
+use std::io;
+use std::io::Write;
 use std::test::Fail;
 
 /// Nothing is known but a last line.
@@ -41,6 +43,14 @@ fn causes_are_told(rt: HostRuntime) {
         Some(Told::NamedTwice)
     );
     assert_eq!(rt; told(Status::Done, b"", &causes), None);
+    assert_eq!(rt;
+        told(Status::TooMany, b"toomany", &NOTHING),
+        Some(Told::TooMany)
+    );
+    assert_eq!(rt;
+        told(Status::TooLong, b"toolong", &NOTHING),
+        Some(Told::TooLong)
+    );
     let nodes = Causes {
         reads: Reads::Nodes,
         ..NOTHING
@@ -88,4 +98,36 @@ fn control_characters_are_shown(rt: HostRuntime) -> Result<(), Fail> {
         assert_eq!(rt; shown(rt.alloc(), word)?.as_slice(), wanted.as_bytes());
     }
     Ok(())
+}
+
+/// A writer that takes all that it gets, and keeps nothing.
+#[derive(Drop)]
+struct Taking;
+
+impl Write for Taking {
+    fn write(&mut self, buf: &[u8]) -> io::Result<usize> {
+        Ok(buf.len())
+    }
+
+    fn flush(&mut self) -> io::Result<()> {
+        Ok(())
+    }
+}
+
+/// What is written, in turn, and the line that is kept then: lines that begin with `s` are not.
+const WRITTEN: [(&[u8], &[u8]); 4] = [
+    (b"line 2 verb\n", b"line 2 verb"),
+    (b"start 0 0 1 1 58e5\n", b"line 2 verb"),
+    (b"refused stale 5\n", b"refused stale 5"),
+    (b"toomany\n", b"toomany"),
+];
+
+#[test]
+fn the_last_line_is_kept(rt: HostRuntime) {
+    let mut output = Output::new(Taking);
+    assert_eq!(rt; output.last_line(), b"".as_slice());
+    for (line, kept) in WRITTEN {
+        assert_eq!(rt; output.write(line), Ok(()));
+        assert_eq!(rt; output.last_line(), kept);
+    }
 }
