@@ -1,4 +1,5 @@
-//! Tests of what each line of a script says at each place, of which boards a world knows, and of acts that are planned.
+//! Tests of what each line of a script says at each place, of lines that are nearly those of a report, of which boards a world
+//! knows, and of acts that are planned.
 #![tactic(auto)]
 
 #[cfg(test)]
@@ -11,3 +12,5 @@ mod known_boards;
 mod plan_faults;
 #[cfg(test)]
 mod plans;
+#[cfg(test)]
+mod reports;
