@@ -237,8 +237,9 @@ fn turns_are_longer_where_nothing_came_for_a_second(rt: HostRuntime) -> Result<(
     let (nothing, passed) = quiet_turns(&rt, 1, 84)?;
     let lasted = u64::try_from(began.elapsed(&rt)?.as_millis()).unwrap_or(0);
     assert!(rt; nothing);
+    // both are in whole milliseconds, and a machine under load may wait before the first turn
     assert!(rt;
-        passed <= lasted && lasted.saturating_sub(passed) < 500,
+        passed <= lasted.saturating_add(1) && lasted.saturating_sub(passed) < 2_000,
         "{lasted}"
     );
     assert!(rt; 1_960 <= passed && passed < 6_000, "{passed}");
