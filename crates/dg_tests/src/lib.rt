@@ -3,10 +3,6 @@
 #![tactic(auto)]
 
 #[cfg(test)]
-mod carrying;
-#[cfg(test)]
-mod causes;
-#[cfg(test)]
 mod chip_files;
 #[cfg(test)]
 mod chips;
@@ -17,21 +13,11 @@ mod descriptors;
 #[cfg(test)]
 mod frames;
 #[cfg(test)]
-mod keys;
-#[cfg(test)]
 mod lines;
-#[cfg(test)]
-mod links;
 #[cfg(test)]
 mod outside;
 #[cfg(test)]
 mod packets;
-#[cfg(test)]
-mod signatures;
-#[cfg(test)]
-mod signed;
-#[cfg(test)]
-mod sockets;
 #[cfg(test)]
 mod timers;
 #[cfg(test)]

@@ -1,5 +1,5 @@
 use Rattle.std.proofs.Common.{◌≡◌}
-use Rattle.dg_tests.proofs.sockets.nothing_comes.Given as goal
+use Rattle.dg_link_tests.proofs.sockets.nothing_comes.Given as goal
 
 abbrev pub invariant-loop : goal.invariant-loop
 invariant-loop g l = g.L.Link.mote_count l.link ≡ l.motes
