@@ -1,6 +1,6 @@
 //! Sockets and the clock of this machine.
 ghost use Rattle.std.specs.Prelude.{◌≡◌, ◌<◌, ◌≤◌, length, OnOk};
-ghost use Rattle.dg_base.specs.Sizes.{longest_frame};
+ghost use Rattle.dg_base.specs.Sizes.{longest_frame, most_motes};
 
 use crate::carrying::{comes, is_quiet, open, send};
 use dg_base::{Clock, LONGEST_FRAME};
@@ -62,7 +62,7 @@ fn datagrams_come_to_their_mote(rt: HostRuntime) -> Result<(), Fail> {
     let mut link = UdpLink::new(&rt, alloc);
     open(&mut link, alloc, port, 2)?;
     assert_eq!(rt; carries_two(&mut link)?, [true; 4]);
-    send_from_outside(&rt, port, &[9; 65])?;
+    send_from_outside(&rt, port, &[9; LONGEST_FRAME + 1])?;
     assert!(rt; comes(&mut link, 0, &[9; LONGEST_FRAME])?);
     let other = UdpLink::new(&rt, alloc).open(alloc, port + 1, 1);
     assert_eq!(rt; other, Err(OpenFault::LinkFailed));
@@ -180,7 +180,7 @@ fn a_failed_receive_is_told(rt: HostRuntime) -> Result<(), Fail> {
 /// Whether nothing comes in so many turns of so many motes, and how many milliseconds they last by the clock.
 fn quiet_turns(rt: &HostRuntime, motes: u16, turns: u32) -> Result<(bool, u64), Fail>
     requires some { 1 ≤ motes }
-    requires most { motes ≤ 16 }
+    requires most { motes ≤ most_motes }
 {
     let alloc = rt.alloc();
     let mut clock = SystemClock::new(rt);
