@@ -15,7 +15,10 @@ use Rattle.dg_slot.proofs.HeaderLemmas.{done_read}
 use Rattle.dg_slot.proofs.DescriptorLemmas.{one_descriptor, descriptor_head}
 use Rattle.dg_chain.specs.Chain.{IsPayload, chain, root_of, most_payload, pages_of_size, no_digest}
 use Rattle.dg_chain.specs.Checking.{field_of, is_same, Break, first_break, payload_length_in, last_field, has_shape, pages_on, data_pages, Answer, Fine, Broken, Misshapen, by_break, answer_of, Collision}
-use Rattle.dg_chain.specs.Answers.{ChainAnswers, Walks}
+use Rattle.dg_chain.specs.Answers.{ChainAnswers, ChainEnds, Walks}
+use Rattle.dg_nor.specs.Device.{Device}
+use Rattle.dg_nor.specs.Reads.{Looked}
+use Rattle.dg_slot.proofs.ReadLemmas.{Looked_then, ReadStopped_after}
 use Rattle.dg_chain.specs.declared.checking.ChainFault.{ChainFault}
 use Rattle.dg_chain.specs.declared.checking.ChainFault.TheVariants as fault
 use Rattle.dg_chain.proofs.WalkLemmas.{named, own}
@@ -112,6 +115,23 @@ walk_ended c image n m kept whole none e = sym (ap (λ (j : ℕ). first_break ke
 
 pub last_ended : (c : List ℕ) (image n m : ℕ) (kept whole : List ℕ) → m ≡ 0 → last_or kept (pages_on c image n m) ≡ whole → kept ≡ whole
 last_ended c image n m kept whole none e = ap (λ (j : ℕ). last_or kept (pages_on c image n j)) (sym none) ∙ e
+
+-- ---- how the chip is left
+
+failed_after : (T U : Type 0) (e : ChainFault) (a b c : Device) → Looked a b → ChainEnds {T = T} (Err e) b c → ChainEnds {T = U} (Err e) a c
+failed_after T U fault.Stopped a b c looked ends = ReadStopped_after looked ends
+failed_after T U (fault.Broken page kept found) a b c looked ends = Looked_then looked ends
+failed_after T U fault.Shape a b c looked ends = Looked_then looked ends
+
+pub stops_after : {T U : Type 0} (r : Result U ChainFault) (q : Result T ChainFault) (e : ChainFault) (a b c : Device) → IsErrAnd r (λ f. f ≡ e) → q ≡ Err e → Looked a b → ChainEnds q b c → ChainEnds r a c
+stops_after (Ok x) q e a b c is was looked ends = absurd is
+stops_after {T} {U} (Err f) q e a b c is was looked ends =
+    let here : ChainEnds {T = T} (Err e) b c = subst (λ (z : Result T ChainFault). ChainEnds z b c) was ends in
+    subst (λ (g : ChainFault). ChainEnds {T = U} (Err g) a c) (sym is) (failed_after T U e a b c looked here)
+
+pub ends_after : {T : Type 0} (r : Result T ChainFault) (a b c : Device) → Looked a b → ChainEnds r b c → ChainEnds r a c
+ends_after (Ok x) a b c looked ends = Looked_then looked ends
+ends_after {T} (Err e) a b c looked ends = failed_after T T e a b c looked ends
 
 -- ---- the answer
 

@@ -11,6 +11,7 @@ still_device c = record {
   left = None;
   taken = None;
   blown = false;
+  made = None;
   references = [];
   beneath = None;
 }

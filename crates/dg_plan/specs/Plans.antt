@@ -39,6 +39,7 @@ plan_device p = record {
   left = Some (length p.commands.now - p.count);
   taken = None;
   blown = p.full;
+  made = None;
   references = lent_of p;
   beneath = None;
 }

@@ -12,6 +12,7 @@ ram_device d = record {
   left = None;
   taken = None;
   blown = false;
+  made = None;
   references = [];
   beneath = None;
 }

@@ -1,6 +1,6 @@
 use Rattle.std.proofs.Common.{◌∙◌, ℕ, List, subst, rules}
 use Rattle.dg_control.specs.Store.{Controls}
-use Rattle.dg_slot.proofs.ReadLemmas.{read_after}
+use Rattle.dg_slot.proofs.ReadLemmas.{Looked_then, read_after}
 use Rattle.dg_breaks.proofs.BreakLemmas.{breaks_behind, breaks_before, not_all_hold}
 use Rattle.dg_breaks.proofs.breaks.first_break.Goals as goal
 
@@ -27,3 +27,11 @@ returns-clause-breaks g c =
 
 pub returns-in_default-clause-ends : goal.returns-in_default-clause-ends
 returns-in_default-clause-ends g c = read_after c.ledger_break.result _ _ _ c.in_ok-count.ensures.ends c.ledger_break.ensures.ends
+
+pub returns-in_default-2-clause-ends : goal.returns-in_default-2-clause-ends
+returns-in_default-2-clause-ends g c =
+    read_after c.snapshot_break.result _ _ _ (Looked_then c.in_ok-count.ensures.ends c.in_ok-snapshot.ensures.ends) c.snapshot_break.ensures.ends
+
+pub returns-clause-ends : goal.returns-clause-ends
+returns-clause-ends g c =
+    read_after c.break_behind.result _ _ _ (Looked_then c.in_ok-count.ensures.ends c.in_ok-snapshot.ensures.ends) c.break_behind.ensures.ends

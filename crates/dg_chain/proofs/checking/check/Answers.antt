@@ -1,7 +1,7 @@
 use Rattle.std.proofs.Common.{◌≡◌, inr, List, ℕ, Result, drop, ◌∙◌, sym, ap, subst}
 use Rattle.dg_chain.specs.Checking.{answer_of, data_pages}
 use Rattle.dg_chain.specs.Answers.{ChainAnswers, ChainEnds}
-use Rattle.dg_chain.proofs.StepLemmas.{err_is, pages_kept, answer_named, answer_own}
+use Rattle.dg_chain.proofs.StepLemmas.{err_is, ends_after, pages_kept, answer_named, answer_own}
 use Rattle.dg_chain.specs.declared.checking.ChainFault.{ChainFault}
 use Rattle.dg_chain.proofs.checking.check.Goals as goal
 
@@ -42,3 +42,6 @@ pub returns-in_err-count-clause-ends : goal.returns-in_err-count-clause-ends
 returns-in_err-count-clause-ends g c =
     let is = err_is c.from_residual.result _ c.from_residual.ensures.1 in
     subst (λ (y : Result ℕ ChainFault). ChainEnds y (g.N.Nor.device c.args.nor.now) (g.N.Nor.device c.count_of.new.nor)) (sym is) c.in_err-count.ensures.ends
+
+pub returns-clause-ends : goal.returns-clause-ends
+returns-clause-ends g c = ends_after c.check_pages.result _ _ _ c.in_ok-count.ensures.ends c.check_pages.ensures.ends

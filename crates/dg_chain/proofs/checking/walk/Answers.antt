@@ -1,7 +1,7 @@
 use Rattle.std.proofs.Common.{◌≡◌, suc, ◌+◌, ◌-◌, ◌<◌, ◌∙◌, arith}
 use Rattle.dg_slot.proofs.ReadLemmas.{Looked_then}
 use Rattle.dg_chain.specs.Checking.{first_break, pages_on, data_pages}
-use Rattle.dg_chain.proofs.StepLemmas.{last_or, last_of_some, walk_more, last_more, walk_stops, walk_ended, last_ended}
+use Rattle.dg_chain.proofs.StepLemmas.{last_or, last_of_some, walk_more, last_more, walk_stops, walk_ended, last_ended, stops_after}
 use Rattle.dg_chain.proofs.checking.walk.Goals as goal
 
 pub returns-in_err-kept-clause-walks : goal.returns-in_err-kept-clause-walks
@@ -40,3 +40,6 @@ returns-clause-walks g c =
       last_ended c0 c.args.image n ((c.args.count + 1) - n) c.loop-page.kept (last_or c.args.root.now (data_pages c0 c.args.image c.args.count)) end before.last
           ∙ last_of_some c.args.root.now c0 c.args.image 1 c.args.count c.requires.some,
     )
+
+pub returns-in_err-kept-clause-ends : goal.returns-in_err-kept-clause-ends
+returns-in_err-kept-clause-ends g c = stops_after c.from_residual.result c.pass_page.result _ _ _ _ c.from_residual.ensures.1 c.in_err-kept.was c.loop-page.invariant.looked c.pass_page.ensures.ends

@@ -3,6 +3,7 @@ use Rattle.dg_control.specs.Store.{HasForm}
 use Rattle.dg_slot.proofs.ReadLemmas.{Looked_then}
 use Rattle.dg_volume.specs.Stands.{IsNoVolume, Mounted}
 use Rattle.dg_breaks.specs.Breaks.{BreaksAt}
+use Rattle.dg_inspect.proofs.SeenLemmas.{look_fails_after}
 use Rattle.dg_inspect.proofs.looking.look.Goals as goal
 
 pub first_break-requires : goal.first_break-requires
@@ -27,3 +28,6 @@ pub returns-in_ok-first_break-in-Err-NotAVolume-clause-shows : goal.returns-in_o
 returns-in_ok-first_break-in-Err-NotAVolume-clause-shows g c =
     let found = c.in_ok-first_break-in-Err-NotAVolume in
     (c.mount.ensures.not_a_volume (search rules), subst (λ (x : List ℕ). BreaksAt x found.field-0) c.mount.ensures.same_image found.ensures.breaks)
+
+pub returns-in_err-seen-in-Ok-clause-ends : goal.returns-in_err-seen-in-Ok-clause-ends
+returns-in_err-seen-in-Ok-clause-ends g c = look_fails_after c.from_residual.result c.see_volume.result _ _ _ _ c.from_residual.ensures.1 c.in_err-seen-in-Ok.was c.in-Ok.ensures.looked c.see_volume.ensures.ends

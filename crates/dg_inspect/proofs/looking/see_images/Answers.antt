@@ -1,10 +1,10 @@
 use Rattle.std.proofs.Common.{◌≡◌, ℕ, ◌+◌, List, [], ◌∷◌, ◌++◌, length, Option, sym, ap, subst, ◌∙◌, None, get_or, length-append}
 use Rattle.dg_inspect.specs.declared.seen.ImageSeen.{ImageSeen}
-use Rattle.dg_slot.proofs.ReadLemmas.{Looked_then}
+use Rattle.dg_slot.proofs.ReadLemmas.{Looked_then, ReadStopped_after}
 use Rattle.dg_volume.specs.Store.{held}
 use Rattle.dg_volume.specs.Stands.{Mounted, IsMounted}
 use Rattle.dg_inspect.specs.Pages.{ShowsKept}
-use Rattle.dg_inspect.proofs.SeenLemmas.{each_more}
+use Rattle.dg_inspect.proofs.SeenLemmas.{each_more, look_stopped}
 use Rattle.dg_inspect.proofs.looking.see_images.Goals as goal
 
 pub see_image-requires-clause-mounted : goal.see_image-requires-clause-mounted
@@ -23,3 +23,9 @@ loop-image-preserved g c =
       count = ap length items ∙ long ∙ ap (λ n. n + 1) before.count;
       looked = Looked_then before.looked c.in_ok-next.ensures.ends;
     }
+
+pub returns-in_err-next-clause-ends : goal.returns-in_err-next-clause-ends
+returns-in_err-next-clause-ends g c = look_stopped c.from_residual.result _ _ c.from_residual.ensures.1 (ReadStopped_after c.loop-image.invariant.looked c.in_err-next.ensures.ends)
+
+pub returns-in-Err-clause-ends : goal.returns-in-Err-clause-ends
+returns-in-Err-clause-ends g c = Looked_then c.loop-image.invariant.looked c.in_ok-next.ensures.ends

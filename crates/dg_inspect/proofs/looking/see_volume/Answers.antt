@@ -1,11 +1,12 @@
 use Rattle.std.proofs.Common.{◌≡◌, ◌<◌, ℕ, List, Option, None, IfSome, get_or, sym, ap, subst, ◌∙◌}
 use Rattle.dg_control.specs.declared.snapshot.Snapshot.{Snapshot}
-use Rattle.dg_slot.proofs.ReadLemmas.{Looked_then}
+use Rattle.dg_slot.proofs.ReadLemmas.{Looked_then, ReadStopped_after}
 use Rattle.dg_volume.specs.Store.{held}
 use Rattle.dg_volume.specs.Told.{program_told}
 use Rattle.dg_volume.specs.Stands.{HoldsApp}
 use Rattle.dg_inspect.specs.Pages.{ShowsKept}
 use Rattle.dg_inspect.specs.declared.seen.ImageSeen.{ImageSeen}
+use Rattle.dg_inspect.proofs.SeenLemmas.{look_stopped}
 use Rattle.dg_inspect.proofs.looking.see_volume.Goals as goal
 
 pub returns-clause-shows : goal.returns-clause-shows
@@ -32,3 +33,6 @@ returns-clause-form g c = c.form.ensures.told (g.N.Nor.device c.args.nor.now).im
 
 pub returns-clause-ends : goal.returns-clause-ends
 returns-clause-ends g c = Looked_then c.in_ok-images.ensures.ends c.in_ok-program.ensures.ends
+
+pub returns-in_err-program-clause-ends : goal.returns-in_err-program-clause-ends
+returns-in_err-program-clause-ends g c = look_stopped c.from_residual-in_err-program.result _ _ c.from_residual-in_err-program.ensures.1 (ReadStopped_after c.in_ok-images.ensures.ends c.in_err-program.ensures.ends)

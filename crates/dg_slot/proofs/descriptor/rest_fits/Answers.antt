@@ -56,3 +56,6 @@ returns-clause-fits g c =
       λ _. subst (λ (n : ℕ). RestFits c.args.first.now.pages head_size (part (sector (g.N.Nor.device c.args.nor.now).image c.args.index) head_size (n - head_size))) end c.loop-at.invariant.fits,
       λ _. refl,
     )
+
+pub returns-then-not-branch-clause-ends : goal.returns-then-not-branch-clause-ends
+returns-then-not-branch-clause-ends g c = Looked_then c.loop-at.invariant.looked c.in_ok-piece_fits.ensures.ends

@@ -6,6 +6,7 @@ use Rattle.dg_tool.specs.Verbs.{commits_text}
 use Rattle.dg_tool.proofs.ReadLemmas.{reads_err, reads_wants}
 use Rattle.dg_end.proofs.TextLemmas.{behind_none}
 use Rattle.dg_tool.proofs.KeptLemmas.{golden_here, golden_line}
+use Rattle.dg_volume.proofs.ReadLemmas.{Looked_then}
 use Rattle.dg_tool.proofs.pinging.ping_mounted.Goals as goal
 
 pub returns-in_err-push_golden-clause-ends : goal.returns-in_err-push_golden-clause-ends
@@ -27,3 +28,6 @@ returns-clause-told g c = λ s mounted.
     let third = c.in_ok-push_images.ensures.told s (mounted_looked s _ _ c.args.volume.now c.in_ok-golden.ensures.ends mounted) in
     third
     ∙ ap (λ (t : List ℕ). t ++ kept_lines s) (second ∙ ap (λ (t : List ℕ). t ++ commits_text s) (behind_none _ _ _ _ empty first (golden_line (held s 0) x.kept _ _ x.here told.0 told.1)))
+
+pub returns-clause-ends : goal.returns-clause-ends
+returns-clause-ends g c = Looked_then c.in_ok-golden.ensures.ends c.in_ok-push_images.ensures.ends

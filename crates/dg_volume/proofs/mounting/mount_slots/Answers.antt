@@ -1,6 +1,6 @@
 use Rattle.std.proofs.Common.{◌≢◌, ℕ, ◌<◌, length, subst, ◌∙◌, List, None, arith, get_or, below_more, get_or-set_other, get_or-set_same}
 use Rattle.std.proofs.Math.ListN.{length-set}
-use Rattle.dg_volume.proofs.ReadLemmas.{Looked_then}
+use Rattle.dg_volume.proofs.ReadLemmas.{Looked_then, mount_after}
 use Rattle.dg_control.specs.declared.snapshot.SlotState.TheVariants.{Dirty}
 use Rattle.dg_volume.specs.Reading.{SlotKeeps}
 use Rattle.dg_volume.proofs.mounting.mount_slots.Goals as goal
@@ -23,3 +23,6 @@ loop-image-preserved g c =
       long = length-set kept i _ ∙ before.long;
       looked = Looked_then before.looked c.in_ok-kept.ensures.ends;
     }
+
+pub returns-in_err-kept-clause-ends : goal.returns-in_err-kept-clause-ends
+returns-in_err-kept-clause-ends g c = mount_after c.from_residual.result c.mount_slot.result _ _ _ _ c.from_residual.ensures.1 c.in_err-kept.was c.loop-image.invariant.looked c.mount_slot.ensures.ends

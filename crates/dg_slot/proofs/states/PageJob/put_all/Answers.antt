@@ -30,7 +30,7 @@ loop-packet-init g c = record {
 
 pub returns-in_err-program_in-clause-stopped : goal.returns-in_err-program_in-clause-stopped
 returns-in_err-program_in-clause-stopped g c =
-    OnErr_from c.from_residual.result (halted_among c.loop-packet.packet packets _ _ _ (omega (arith, c.loop-packet-test.true)) c.loop-packet.invariant.ran c.in_err-program_in.ensures.stopped)
+    OnErr_from c.from_residual.result (halted_among c.loop-packet.packet packets _ _ _ (omega (arith, c.loop-packet-test.true)) c.loop-packet.invariant.ran (c.in_err-program_in.ensures.stopped (omega arith)))
 
 pub loop-packet-preserved : goal.loop-packet-preserved
 loop-packet-preserved g c =
@@ -59,9 +59,9 @@ loop-packet-preserved g c =
       missing = λ q h. here q ∙ ap (λ (b : Bool). b || set.contains (got_of_job k) q) (ne_eqb q n (omega arith)) ∙ before.missing q (omega arith);
       same_slot = before.same_slot;
       index = before.index;
-      ran = Ran_then before.ran c.in_ok-program_in.ensures.ran;
+      ran = Ran_then before.ran (c.in_ok-program_in.ensures.ran (omega arith));
       kept = λ h is. open_stays mid new c.args.self.now.slot h (omega arith) (omega arith) (subst (λ (s : ℕ). Touches s (s + 1) mid new) before.index c.program_in.ensures.touches) (before.kept h is);
-      references = c.in_ok-program_in.ensures.ran.references ∙ before.references;
+      references = (c.in_ok-program_in.ensures.ran (omega arith)).references ∙ before.references;
       touches = Touches_then before.touches (subst (λ (s : ℕ). Touches s (s + 1) mid new) before.index c.program_in.ensures.touches);
     }
 
