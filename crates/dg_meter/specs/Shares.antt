@@ -1,5 +1,5 @@
 -- How many of something there were, and their bytes, in each part of a chip (the types `Share` and `Shares`).
-use Rattle.std.specs.Prelude.{ℕ, ◌+◌, ◌-◌, ◌^◌, min}
+use Rattle.std.specs.Prelude.{ℕ, ◌+◌, ◌-◌, ◌^◌, min, List, [], ◌∷◌}
 use Rattle.dg_meter.specs.declared.share.Share.{Share}
 use Rattle.dg_meter.specs.declared.shares.Shares.{Shares}
 use Rattle.dg_meter.specs.declared.region.Region.{Region}
@@ -38,3 +38,7 @@ share_noted s Control bytes = record s { control = one_more s.control bytes }
 share_noted s Program bytes = record s { program = one_more s.program bytes }
 share_noted s Head bytes = record s { head = one_more s.head bytes }
 share_noted s Page bytes = record s { page = one_more s.page bytes }
+
+-- how many there were in each part
+abbrev pub counts_in : Shares → List ℕ
+counts_in s = s.ledger.count ∷ s.control.count ∷ s.program.count ∷ s.head.count ∷ s.page.count ∷ []

@@ -1,9 +1,9 @@
 -- How operations are counted: each once, with its bytes, in its part of the chip.
-use Rattle.std.specs.Prelude.{◌≡◌, ◌≢◌, ◌⊎◌, ℕ, ◌/◌, Some, None}
+use Rattle.std.specs.Prelude.{◌≡◌, ◌≢◌, ◌⊎◌, ℕ, ◌/◌, List, ◌++◌, Some, None}
 use Rattle.dg_nor.specs.Sizes.{sector_size}
 use Rattle.dg_slot.specs.Layout.{header_size}
 use Rattle.dg_meter.specs.Regions.{region_of}
-use Rattle.dg_meter.specs.Shares.{capped_sum, no_shares, share_noted}
+use Rattle.dg_meter.specs.Shares.{capped_sum, no_shares, share_noted, counts_in}
 use Rattle.dg_meter.specs.declared.shares.Shares.{Shares}
 use Rattle.dg_meter.specs.declared.tally.Tally.{Tally}
 use Rattle.dg_meter.specs.declared.region.Region.TheVariants.{Head}
@@ -21,6 +21,10 @@ pub record NoOperations (t : Tally) : Type 0 where
 abbrev pub shares_of : Tally → Kind → Shares
 shares_of t Program = t.programs
 shares_of t Erase = t.erases
+
+-- how many there were in each part of the chip, programs before erases
+abbrev pub counts_of : Tally → List ℕ
+counts_of t = counts_in t.programs ++ counts_in t.erases
 
 -- An erase of this sector was counted, and nothing else.
 pub record Erased (sector : ℕ) (a b : Tally) : Type 0 where

@@ -3,7 +3,7 @@ ghost use Rattle.std.specs.Prelude.{◌≡◌, ◌+◌, ◌%◌, ◌<◌, ◌≤
 ghost use Rattle.dg_words.specs.Cells.{part};
 ghost use Rattle.dg_nor.specs.Sizes.{sectors, sector_size, chip_size};
 ghost use Rattle.dg_nor.specs.Chip.{programmed, erased, CutProgram, CutErase};
-ghost use Rattle.dg_nor.specs.Device.{Ran, Halts, Took, taken_more};
+ghost use Rattle.dg_nor.specs.Device.{Ran, Halts, Refilled, RefillHalts, Took, taken_more};
 ghost use Rattle.dg_meter.specs.Pages.{slots, ArePages};
 
 use crate::known::{note_erase, note_program, read_pages};
@@ -98,9 +98,15 @@ impl<N: Nor> Nor for Metered<N> {
         requires in_sector { at % sector_size + length bytes.now ≤ sector_size }
         ensures image { OnOk result ((metered_device N.device self.new).image
             ≡ programmed (metered_device N.device self.old).image at bytes.now) }
-        ensures ran { OnOk result (Ran 1 (metered_device N.device self.old) (metered_device N.device self.new)) }
+        ensures ran { length bytes.now < sector_size
+            → OnOk result (Ran 1 (metered_device N.device self.old) (metered_device N.device self.new)) }
+        ensures refilled { length bytes.now ≡ sector_size
+            → OnOk result (Refilled (metered_device N.device self.old) (metered_device N.device self.new)) }
         ensures awake { OnOk result ((metered_device N.device self.old).stopped ≡ false) }
-        ensures stopped { OnErr result (Halts 1 0 (metered_device N.device self.old) (metered_device N.device self.new)) }
+        ensures stopped { length bytes.now < sector_size
+            → OnErr result (Halts 1 0 (metered_device N.device self.old) (metered_device N.device self.new)) }
+        ensures unfilled { length bytes.now ≡ sector_size
+            → OnErr result (RefillHalts (metered_device N.device self.old) (metered_device N.device self.new)) }
         ensures cut { OnErr result (CutProgram (metered_device N.device self.old).image at bytes.now
             (metered_device N.device self.new).image) }
         ensures same_taken { (metered_device N.device self.new).taken ≡ (metered_device N.device self.old).taken }

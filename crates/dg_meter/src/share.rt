@@ -1,5 +1,5 @@
 //! How many of something there were, and their bytes.
-ghost use Rattle.std.specs.Prelude.{◌≡◌};
+ghost use Rattle.std.specs.Prelude.{◌≡◌, ◌^◌, ◌<◌};
 ghost use Rattle.dg_meter.specs.Shares.{no_share, one_more, both, those_since};
 
 /// How many of something there were, and their bytes. Both saturate at the greatest `u64`.
@@ -19,7 +19,8 @@ impl Share {
 
     /// One more, of this many bytes.
     pub fn and(self, bytes: usize) -> Share
-        ensures { result ≡ one_more self bytes }
+        ensures is { result ≡ one_more self bytes }
+        ensures fits { self.count < 2 ^ 64 }
     {
         Share {
             count: self.count.saturating_add(1),

@@ -1,6 +1,7 @@
 //! How many of something there were, and their bytes, in each part of a chip.
 ghost use Rattle.std.specs.Prelude.{◌≡◌};
-ghost use Rattle.dg_meter.specs.Shares.{no_share, no_shares, share_at, share_noted};
+ghost use Rattle.dg_nor.specs.Device.{PartsRise};
+ghost use Rattle.dg_meter.specs.Shares.{no_share, no_shares, share_at, share_noted, counts_in};
 
 use crate::region::Region;
 use crate::share::Share;
@@ -45,7 +46,8 @@ impl Shares {
 
     /// One more in a part, of this many bytes.
     pub fn note(&mut self, region: Region, bytes: usize)
-        ensures { self.new ≡ share_noted self.old region bytes }
+        ensures noted { self.new ≡ share_noted self.old region bytes }
+        ensures rises { PartsRise 1 (counts_in self.old) (counts_in self.new) }
     {
         match region {
             Region::Ledger => self.ledger = self.ledger.and(bytes),

@@ -1,9 +1,10 @@
 //! The operations that were made on a chip.
 ghost use Rattle.std.specs.Prelude.{◌≡◌, ◌≢◌, length, Some};
 ghost use Rattle.dg_nor.specs.Sizes.{sector_size};
+ghost use Rattle.dg_nor.specs.Device.{PartsRise};
 ghost use Rattle.dg_meter.specs.Shares.{capped_sum};
 ghost use Rattle.dg_meter.specs.declared.tally.Kind.TheVariants.{Program};
-ghost use Rattle.dg_meter.specs.Tallies.{Erased, Programmed, NoOperations, shares_of};
+ghost use Rattle.dg_meter.specs.Tallies.{Erased, Programmed, NoOperations, shares_of, counts_of};
 
 use crate::region::Region;
 use crate::shares::Shares;
@@ -68,7 +69,8 @@ impl Tally {
 
     /// An erase was made.
     pub fn erase(&mut self, sector: u32)
-        ensures { Erased sector self.old self.new }
+        ensures is { Erased sector self.old self.new }
+        ensures rises { PartsRise 1 (counts_of self.old) (counts_of self.new) }
     {
         let region = Region::of(sector);
         self.operations = self.operations.saturating_add(1);
@@ -85,7 +87,8 @@ impl Tally {
     /// and that erase was counted.
     #[inline(never)]
     pub fn program(&mut self, at: u32, bytes: &[u8])
-        ensures { Programmed at (length bytes.now) self.old self.new }
+        ensures is { Programmed at (length bytes.now) self.old self.new }
+        ensures rises { length bytes.now ≢ sector_size → PartsRise 1 (counts_of self.old) (counts_of self.new) }
     {
         if bytes.len() == SECTOR_SIZE as usize {
             return;
@@ -104,15 +107,16 @@ impl Tally {
     #[inline(never)]
     fn program_outside_pages(&mut self, at: u32, bytes: usize)
         requires { bytes ≢ sector_size }
-        ensures { Programmed at bytes self.old self.new }
+        ensures is { Programmed at bytes self.old self.new }
+        ensures rises { PartsRise 1 (counts_of self.old) (counts_of self.new) }
     {
         let sector = at / SECTOR_SIZE;
         let region = Region::of(sector);
+        self.programs.note(region, bytes);
+        self.note_program(region, sector, bytes);
         if region == Region::Head && bytes == HEADER_SIZE {
             self.headers = self.headers.saturating_add(1);
         }
-        self.programs.note(region, bytes);
-        self.note_program(region, sector, bytes);
     }
 
     /// The last operation was a program.

@@ -1,4 +1,4 @@
-use Rattle.std.proofs.Common.{◌∙◌, ◌-◌, ℕ, length, slice_set, refl, ap, get_or, arith}
+use Rattle.std.proofs.Common.{◌∙◌, ◌-◌, ℕ, length, slice_set, refl, ap, arith}
 use Rattle.std.specs.Prelude.{bit_and, slice_index}
 use Rattle.std.proofs.lemmas.List.{get_or-set_same, get_or-set_other}
 use Rattle.dg_meter.proofs.PageLemmas.{in_chip, programmed_pages}
