@@ -6,7 +6,7 @@ use Rattle.dg_drip.specs.declared.entry.Entry.{Entry}
 use Rattle.dg_drip.specs.declared.events.DripEvent.{DripEvent}
 use Rattle.dg_drip.specs.Entries.{none, IsAtMost, IsAmong, IsGreatestOf}
 use Rattle.dg_drip.specs.Network.{start, run, entry_at}
-use Rattle.dg_drip.specs.Spread.{all_brought, made_in, drip_round, sweeps, HasDripRounds, IsAtNodesBelow, IsGreatestAt, AreWithin}
+use Rattle.dg_drip.specs.Spread.{all_brought, set_in, drip_round, sweeps, HasDripRounds, IsAtNodesBelow, IsGreatestAt, AreWithin}
 use Rattle.dg_base.specs.declared.answers.Status.{Status}
 use Rattle.dg_outside.specs.Outside.{Outside}
 use Rattle.dg_drip_script.specs.Scripts.{DripScript, drip_events_of, network_of}
@@ -26,7 +26,7 @@ NothingFalls s = (front back : List DripEvent) (node key : ℕ) → drip_events_
 -- what a node keeps was set at some node of this run
 abbrev pub SetsMakeAll : DripScript → Type 0
 SetsMakeAll s = (node key : ℕ) → (entry_at (network_of s) node key ≡ none)
-    ⊎ IsAmong (entry_at (network_of s) node key) (made_in (start s.links) (drip_events_of s.items) key)
+    ⊎ IsAmong (entry_at (network_of s) node key) (set_in (start s.links) (drip_events_of s.items) key)
 
 -- after a round the second node keeps no less than the first one kept
 abbrev pub RoundsRaise : DripScript → Type 0
