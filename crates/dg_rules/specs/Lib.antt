@@ -3,6 +3,7 @@ pub mod World
 pub mod Changes
 pub mod Events
 pub mod Steps
+pub mod Made
 pub mod Small
 pub mod Legal
 pub mod Runs

@@ -128,7 +128,7 @@ module _ (x : Step) (reported : Bool) (a b : Deployment) (air : Air) (z : RuleWo
       no_fault f e = cc
 
       given : (w : RuleWorld) → Applied w x reported Roomy b → Applied w x reported a b
-      given w y = record { world = y.world; reports = y.reports; step = y.step; stood = y.stood; report_now = y.report_now; boards = y.boards; calm = y.calm; memory = y.memory }
+      given w y = record { world = y.world; reports = y.reports; step = y.step; stood = y.stood; report_now = y.report_now; boards = y.boards; calm = y.calm; made = y.made; memory = y.memory }
 
   was_stopped : (n : ℕ) → ApplyMade (Err (Flash n)) x reported Roomy b → ApplyDone (Err (Flash n)) x reported a b
   was_stopped n m =

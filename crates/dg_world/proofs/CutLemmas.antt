@@ -1,26 +1,28 @@
 -- From what an event did over a fuse to what its board holds.
-use Rattle.std.proofs.Common.{◌≡◌, ℕ, ◌+◌, ◌-◌, ◌≤◌, Bool, true, false, refl, ap, sym, ◌∙◌, subst, arith}
-use Rattle.std.specs.Prelude.{◌||◌, ◌&&◌, not, if◌then◌else◌, ◌∷◌, nat_le, Option, Some, None, Result, Ok, Err, IsSomeAnd}
+use Rattle.std.proofs.Common.{◌≡◌, ℕ, List, ◌+◌, ◌-◌, ◌≤◌, Bool, true, false, refl, ap, sym, ◌∙◌, subst, ⊎_elim, arith}
+use Rattle.std.specs.Prelude.{◌||◌, ◌&&◌, not, if◌then◌else◌, ◌∷◌, ◌<◌, min, nat_le, Option, Some, None, Result, Ok, Err, IsSomeAnd}
 use Rattle.std.proofs.lemmas.Bool.{lt-leb, le-leb, both_ways}
 use Rattle.std.proofs.lemmas.Option.{same_Some}
 use Rattle.std.specs.Borrow.{GName}
-use Rattle.dg_nor.specs.Device.{Device, Beneath, Endures, BeneathEndures, Ran, Halts, more}
+use Rattle.dg_nor.specs.Device.{Device, Beneath, Endures, MadeMore, Worked, Interrupted, BeneathWorked, BeneathInterrupted, fired_now, Ran, Halts, Halted, more}
 use Rattle.dg_nor.specs.Fuse.{beneath_of, inner_of, fused_device}
 use Rattle.dg_nor.specs.declared.fuse.Fused.{Fused}
 use Rattle.dg_nor.specs.Trail.{operations, last, MayLeave}
 use Rattle.dg_nor.proofs.DeviceLemmas.{left_ran, left_blown}
 use Rattle.dg_nor.proofs.MaskLemmas.{Endures_ran, Endures_halts}
 use Rattle.dg_nor.proofs.TrailLemmas.{operations-resting}
-use Rattle.dg_volume.specs.Store.{IsNear}
+use Rattle.dg_volume.specs.Store.{Store, IsNear}
 use Rattle.dg_volume.specs.Stands.{Stands}
 use Rattle.dg_rules.specs.World.{World as RuleWorld, store_at}
-use Rattle.dg_rules.specs.Events.{Does, Refuses, Goes, trail_of}
+use Rattle.dg_rules.specs.Made.{made_by}
+use Rattle.dg_rules.specs.Events.{EventEffect, Does, Refuses, Goes, trail_of}
 use Rattle.dg_base.specs.declared.events.Cut.{Cut as PowerCut}
+use Rattle.dg_script.specs.declared.report.Cause.{Cause}
 use Rattle.dg_world.specs.inner.OutcomeEndings.{ReportsEffect, EventDone, EventStopped, OutcomeEnds}
 use Rattle.dg_world.specs.inner.CutEnds.{ended, EventIsWhole, EventIsCut, EventPlayed}
 use Rattle.dg_world.specs.Counts.{IsSteady}
 use Rattle.dg_world.specs.Cuts.{IsStopped}
-use Rattle.dg_world.proofs.CountLemmas.{steady_ran}
+use Rattle.dg_world.proofs.CountLemmas.{steady_ran, made_goes, made_refused}
 use Rattle.dg_node.specs.Hosts.{host}
 use Rattle.dg_node.specs.declared.report.ChipReport.{ChipReport}
 use Rattle.dg_node.specs.declared.node.Node.{Node}
@@ -32,13 +34,13 @@ went_whole : (w : RuleWorld) (m : ℕ) (does : Does) (u : Option Node) (a b : De
 went_whole w m does u a b outcome x = record { effect = x.effect; goes = x.goes; whole = refl; tells = x.tells }
 
 pub uncut : (r : Result EventOutcome Halt) (w : RuleWorld) (m : ℕ) (does : Does) (v u : Option Node) (a b : Device) → OutcomeEnds r w m does (host a v) (host b u) → EventPlayed (ended false r) w m does None (host a v) (host b u)
-uncut (Ok (Refused why)) w m does v u a b x = record { ends = (x.0, x.1.same_image, x.2); endures = Endures_ran x.1.ran; count = steady_ran x.1.ran }
-uncut (Ok Unreported) w m does v u a b x = record { ends = went_whole w m does u a b Unreported x; endures = Endures_ran x.ran; count = steady_ran x.ran }
-uncut (Ok (Sends frame)) w m does v u a b x = record { ends = went_whole w m does u a b (Sends frame) x; endures = Endures_ran x.ran; count = steady_ran x.ran }
-uncut (Ok (Changes p q)) w m does v u a b x = record { ends = went_whole w m does u a b (Changes p q) x; endures = Endures_ran x.ran; count = steady_ran x.ran }
-uncut (Ok (Starts p)) w m does v u a b x = record { ends = went_whole w m does u a b (Starts p) x; endures = Endures_ran x.ran; count = steady_ran x.ran }
-uncut (Err (Stopped before)) w m does v u a b x = record { ends = record { stopped = x.stops.halts.stopped; done = x.stops.done; within = x.stops.halts.within; uncut = tt; leaves = x.stops.leaves }; endures = Endures_halts x.stops.halts; count = tt }
-uncut (Err NoImage) w m does v u a b x = record { ends = record { effect = x.effect; goes = x.goes; none = x.none; whole = refl; stands = x.stands }; endures = Endures_ran x.ran; count = steady_ran x.ran }
+uncut (Ok (Refused why)) w m does v u a b x = record { ends = (x.0, x.1.same_image, x.2); endures = Endures_ran x.1.ran; count = steady_ran x.1.ran; made = made_refused does why (store_at w m) a b x.0 x.1.ran }
+uncut (Ok Unreported) w m does v u a b x = record { ends = went_whole w m does u a b Unreported x; endures = Endures_ran x.ran; count = steady_ran x.ran; made = made_goes does x.effect (store_at w m) a b x.goes x.ran }
+uncut (Ok (Sends frame)) w m does v u a b x = record { ends = went_whole w m does u a b (Sends frame) x; endures = Endures_ran x.ran; count = steady_ran x.ran; made = made_goes does x.effect (store_at w m) a b x.goes x.ran }
+uncut (Ok (Changes p q)) w m does v u a b x = record { ends = went_whole w m does u a b (Changes p q) x; endures = Endures_ran x.ran; count = steady_ran x.ran; made = made_goes does x.effect (store_at w m) a b x.goes x.ran }
+uncut (Ok (Starts p)) w m does v u a b x = record { ends = went_whole w m does u a b (Starts p) x; endures = Endures_ran x.ran; count = steady_ran x.ran; made = made_goes does x.effect (store_at w m) a b x.goes x.ran }
+uncut (Err (Stopped before)) w m does v u a b x = record { ends = record { stopped = x.stops.halts.stopped; done = x.stops.done; within = x.stops.halts.within; uncut = tt; leaves = x.stops.leaves }; endures = Endures_halts x.stops.halts; count = tt; made = tt }
+uncut (Err NoImage) w m does v u a b x = record { ends = record { effect = x.effect; goes = x.goes; none = x.none; whole = refl; stands = x.stands }; endures = Endures_ran x.ran; count = steady_ran x.ran; made = made_goes does x.effect (store_at w m) a b x.goes x.ran }
 uncut (Err NotAVolume) w m does v u a b x = absurd x
 
 -- a halt without a cut is reported unchanged
@@ -63,8 +65,11 @@ pub record IsFused (cut : PowerCut) (a b x y : Device) : Type 0 where
   pub stopped : x.stopped ≡ a.stopped
   pub stopped_then : y.blown ≡ false → y.stopped ≡ b.stopped
 
-endures_by : (a b : Beneath) (x y : Option Beneath) → x ≡ Some a → y ≡ Some b → BeneathEndures x y → Endures a b
-endures_by a b x y ex ey h = subst (λ (o : Option Beneath). IsSomeAnd o (Endures a)) ey (subst (λ (o : Option Beneath). BeneathEndures o y) ex h)
+worked_by : (n : ℕ) (a b : Beneath) (x y : Option Beneath) → x ≡ Some a → y ≡ Some b → BeneathWorked n x y → Worked n a b
+worked_by n a b x y ex ey h = subst (λ (o : Option Beneath). IsSomeAnd o (Worked n a)) ey (subst (λ (o : Option Beneath). BeneathWorked n o y) ex h)
+
+interrupted_by : (n : ℕ) (a b : Beneath) (x y : Option Beneath) → x ≡ Some a → y ≡ Some b → BeneathInterrupted n x y → Interrupted n a b
+interrupted_by n a b x y ex ey h = subst (λ (o : Option Beneath). IsSomeAnd o (Interrupted n a)) ey (subst (λ (o : Option Beneath). BeneathInterrupted n o y) ex h)
 
 not_reached : (cut : PowerCut) (n : ℕ) (a b x y : Device) → IsFused cut a b x y → Ran n x y → nat_le cut.after n ≡ false
 not_reached cut n a b x y f r =
@@ -72,7 +77,23 @@ not_reached cut n a b x y f r =
     lt-leb cut.after n (omega (arith, h.0, f.counted))
 
 fused_ran : {n : ℕ} (cut : PowerCut) (a b x y : Device) → IsFused cut a b x y → Ran n x y → Endures (beneath_of a) (beneath_of b)
-fused_ran cut a b x y f r = endures_by (beneath_of a) (beneath_of b) x.beneath y.beneath f.beneath f.beneath_then r.beneath
+fused_ran {n} cut a b x y f r = (worked_by n (beneath_of a) (beneath_of b) x.beneath y.beneath f.beneath f.beneath_then r.beneath).endures
+
+-- the cut did not fire, so that all n operations were made
+fused_made : {n : ℕ} (cut : PowerCut) (a b x y : Device) → IsFused cut a b x y → Ran n x y → MadeMore (made_by (Some cut) n) a.made b.made
+fused_made {n} cut a b x y f r =
+    let h = left_ran (cut.after - 1) r f.left in
+    subst (λ (k : ℕ). MadeMore k a.made b.made) (let e : n ≡ min cut.after n = omega (arith, h.0, f.counted) in e)
+    (worked_by n (beneath_of a) (beneath_of b) x.beneath y.beneath f.beneath f.beneath_then r.beneath).made
+
+-- the same of an event
+fused_goes : (cut : PowerCut) (does : Does) (d : EventEffect) (s : Store) (a b x y : Device) → IsFused cut a b x y → does ≡ Goes d → Ran (operations d.trail) x y → MadeMore (made_by (Some cut) (operations (trail_of does s))) a.made b.made
+fused_goes cut does d s a b x y f goes r =
+    subst (λ (D : Does). MadeMore (made_by (Some cut) (operations (trail_of D s))) a.made b.made) (sym goes) (fused_made cut a b x y f r)
+
+fused_refused : (cut : PowerCut) (does : Does) (why : Cause) (s : Store) (a b x y : Device) → IsFused cut a b x y → does ≡ Refuses why → Ran 0 x y → MadeMore (made_by (Some cut) (operations (trail_of does s))) a.made b.made
+fused_refused cut does why s a b x y f refuses r =
+    subst (λ (n : ℕ). MadeMore (made_by (Some cut) n) a.made b.made) (sym (ap (λ (D : Does). operations (trail_of D s)) refuses ∙ operations-resting s 0)) (fused_made cut a b x y f r)
 
 fused_count : {n : ℕ} (cut : PowerCut) (a b x y : Device) → IsFused cut a b x y → Ran n x y → IsSteady a b
 fused_count cut a b x y f r = record {
@@ -81,7 +102,31 @@ fused_count cut a b x y f r = record {
 }
 
 fused_halts : {n done : ℕ} (cut : PowerCut) (a b x y : Device) → IsFused cut a b x y → Halts n done x y → Endures (beneath_of a) (beneath_of b)
-fused_halts cut a b x y f h = endures_by (beneath_of a) (beneath_of b) x.beneath y.beneath f.beneath f.beneath_then h.beneath
+fused_halts {n} {done} cut a b x y f h =
+    (interrupted_by (done + fired_now x.blown y.blown) (beneath_of a) (beneath_of b) x.beneath y.beneath f.beneath f.beneath_then h.beneath).endures
+
+-- where a fuse fired, all operations that were left were made
+done_fired : (k done : ℕ) (o : Option ℕ) → Some k ≡ more done o → o ≡ Some 0 → done ≡ k
+done_fired k done o h zero = let e : k ≡ 0 + done = same_Some k (0 + done) (h ∙ ap (more done) zero) in omega (arith, e)
+
+fired_one : (was now : Bool) → was ≡ false → now ≡ true → fired_now was now ≡ 1
+unfolding fired_now
+fired_one false true h k = refl
+fired_one false false h k = absurd (both_ways false refl k)
+fired_one true now h k = absurd (both_ways true h refl)
+
+-- the cut fired: the operations up to the one that it interrupted were made
+cut_made : {n done : ℕ} (cut : PowerCut) (a b x y : Device) → IsFused cut a b x y → Halts n done x y → y.blown ≡ true → b.stopped ≡ false → MadeMore (made_by (Some cut) n) a.made b.made
+cut_made {n} {done} cut a b x y f h blown awake =
+    let all = interrupted_by (done + fired_now x.blown y.blown) (beneath_of a) (beneath_of b) x.beneath y.beneath f.beneath f.beneath_then h.beneath in
+    let count : done + fired_now x.blown y.blown ≡ min cut.after n = ⊎_elim
+    (λ was. absurd (both_ways x.blown f.whole was))
+    (λ out.
+    let one = fired_one x.blown y.blown f.whole blown in
+    let all_left = done_fired (cut.after - 1) done y.left (sym f.left ∙ h.left) out.1 in
+    omega (arith, one, all_left, out.0, f.counted))
+    (h.fired blown) in
+    subst (λ (k : ℕ). MadeMore k a.made b.made) count (all.made awake)
 
 fused_whole : (cut : PowerCut) (w : RuleWorld) (m : ℕ) (does : Does) (u : Option Node) (a b x y : Device) (outcome : EventOutcome) → IsFused cut a b x y → EventDone w m does u x y outcome → EventIsWhole w m does (Some cut) u b.image outcome
 fused_whole cut w m does u a b x y outcome f g = record {
@@ -133,23 +178,24 @@ fused_stopped : (cut : PowerCut) (w : RuleWorld) (m : ℕ) (does : Does) (v u : 
     → EventPlayed (ended (blown && not stopped) (Err (Stopped before))) w m does (Some cut) (host a v) (host b u)
 fused_stopped cut w m does v u a b x y before true false fired awake f s =
     let endures = fused_halts cut a b x y f s.stops.halts in
-    record { ends = blown_effect cut w m does a b x y before f fired s; endures = endures; count = steady_awake a b endures awake }
-fused_stopped cut w m does v u a b x y before true true fired stopped f s = record { ends = stopped_itself cut w m does a b x y before stopped f s; endures = fused_halts cut a b x y f s.stops.halts; count = tt }
+    record { ends = blown_effect cut w m does a b x y before f fired s; endures = endures; count = steady_awake a b endures awake; made = cut_made cut a b x y f s.stops.halts fired awake }
+fused_stopped cut w m does v u a b x y before true true fired stopped f s = record { ends = stopped_itself cut w m does a b x y before stopped f s; endures = fused_halts cut a b x y f s.stops.halts; count = tt; made = tt }
 fused_stopped cut w m does v u a b x y before false stopped whole is f s =
-    record { ends = stopped_itself cut w m does a b x y before (sym (f.stopped_then whole) ∙ s.stops.halts.stopped) f s; endures = fused_halts cut a b x y f s.stops.halts; count = tt }
+    record { ends = stopped_itself cut w m does a b x y before (sym (f.stopped_then whole) ∙ s.stops.halts.stopped) f s; endures = fused_halts cut a b x y f s.stops.halts; count = tt; made = tt }
 
 pub fused : (r : Result EventOutcome Halt) (cut : PowerCut) (w : RuleWorld) (m : ℕ) (does : Does) (v u : Option Node) (a b x y : Device) → IsFused cut a b x y → OutcomeEnds r w m does (host x v) (host y u) → EventPlayed (ended (y.blown && not b.stopped) r) w m does (Some cut) (host a v) (host b u)
-fused (Ok (Refused why)) cut w m does v u a b x y f t = record { ends = (t.0, sym f.image_then ∙ t.1.same_image ∙ f.image, t.2); endures = fused_ran cut a b x y f t.1.ran; count = fused_count cut a b x y f t.1.ran }
-fused (Ok Unreported) cut w m does v u a b x y f t = record { ends = fused_whole cut w m does u a b x y Unreported f t; endures = fused_ran cut a b x y f t.ran; count = fused_count cut a b x y f t.ran }
-fused (Ok (Sends frame)) cut w m does v u a b x y f t = record { ends = fused_whole cut w m does u a b x y (Sends frame) f t; endures = fused_ran cut a b x y f t.ran; count = fused_count cut a b x y f t.ran }
-fused (Ok (Changes p q)) cut w m does v u a b x y f t = record { ends = fused_whole cut w m does u a b x y (Changes p q) f t; endures = fused_ran cut a b x y f t.ran; count = fused_count cut a b x y f t.ran }
-fused (Ok (Starts p)) cut w m does v u a b x y f t = record { ends = fused_whole cut w m does u a b x y (Starts p) f t; endures = fused_ran cut a b x y f t.ran; count = fused_count cut a b x y f t.ran }
+fused (Ok (Refused why)) cut w m does v u a b x y f t = record { ends = (t.0, sym f.image_then ∙ t.1.same_image ∙ f.image, t.2); endures = fused_ran cut a b x y f t.1.ran; count = fused_count cut a b x y f t.1.ran; made = fused_refused cut does why (store_at w m) a b x y f t.0 t.1.ran }
+fused (Ok Unreported) cut w m does v u a b x y f t = record { ends = fused_whole cut w m does u a b x y Unreported f t; endures = fused_ran cut a b x y f t.ran; count = fused_count cut a b x y f t.ran; made = fused_goes cut does t.effect (store_at w m) a b x y f t.goes t.ran }
+fused (Ok (Sends frame)) cut w m does v u a b x y f t = record { ends = fused_whole cut w m does u a b x y (Sends frame) f t; endures = fused_ran cut a b x y f t.ran; count = fused_count cut a b x y f t.ran; made = fused_goes cut does t.effect (store_at w m) a b x y f t.goes t.ran }
+fused (Ok (Changes p q)) cut w m does v u a b x y f t = record { ends = fused_whole cut w m does u a b x y (Changes p q) f t; endures = fused_ran cut a b x y f t.ran; count = fused_count cut a b x y f t.ran; made = fused_goes cut does t.effect (store_at w m) a b x y f t.goes t.ran }
+fused (Ok (Starts p)) cut w m does v u a b x y f t = record { ends = fused_whole cut w m does u a b x y (Starts p) f t; endures = fused_ran cut a b x y f t.ran; count = fused_count cut a b x y f t.ran; made = fused_goes cut does t.effect (store_at w m) a b x y f t.goes t.ran }
 fused (Err (Stopped before)) cut w m does v u a b x y f t = fused_stopped cut w m does v u a b x y before y.blown b.stopped refl refl f t
 fused (Err NoImage) cut w m does v u a b x y f t =
     record {
       ends = record { effect = t.effect; goes = t.goes; none = t.none; whole = not_reached cut (operations t.effect.trail) a b x y f t.ran; stands = subst (λ c. Stands c (last t.effect.trail)) f.image_then t.stands };
       endures = fused_ran cut a b x y f t.ran;
       count = fused_count cut a b x y f t.ran;
+      made = fused_goes cut does t.effect (store_at w m) a b x y f t.goes t.ran;
     }
 fused (Err NotAVolume) cut w m does v u a b x y f t = absurd t
 
@@ -161,6 +207,7 @@ pub is_fused : {N : Type 0} (device : N → Device) (cut : PowerCut) (a : Device
   left = Some (cut.after - 1);
   taken = a.taken;
   blown = false;
+  made = None;
   references = name ∷ a.references;
   beneath = Some (beneath_of a);
 }

@@ -5,10 +5,10 @@ use Rattle.std.specs.List.{filter}
 use Rattle.std.proofs.lemmas.Bool.Decides.{nat_tests}
 use Rattle.std.proofs.lemmas.List.{set-get_or}
 use Rattle.std.proofs.lemmas.Option.{same_Some}
-use Rattle.dg_nor.specs.Device.{Device}
+use Rattle.dg_nor.specs.Device.{Device, MadeMore}
 use Rattle.dg_nor.specs.Fuse.{beneath_of}
 use Rattle.dg_nor.specs.Trail.{Trail, operations, last, MayLeave}
-use Rattle.dg_nor.proofs.DeviceLemmas.{Endures_then}
+use Rattle.dg_nor.proofs.DeviceLemmas.{Endures_then, MadeMore_then}
 use Rattle.dg_slot.specs.Pages.{program}
 use Rattle.dg_volume.specs.Store.{Store, IsNear}
 use Rattle.dg_volume.specs.Stands.{Stands}
@@ -19,6 +19,7 @@ use Rattle.dg_rules.specs.World.{World as RuleWorld, Site, no_site, site, store_
 use Rattle.dg_rules.specs.Events.{EventEffect, Does, Refuses, Goes, trail_of, does, mote_of, dt_of}
 use Rattle.dg_rules.specs.Steps.{blows, before_cut, and_sent, done_world, cut_world, done_reports, Ended, StepDoes, WorldStep}
 use Rattle.dg_rules.specs.Changes.{changes, is_reported}
+use Rattle.dg_rules.specs.Made.{made_in}
 use Rattle.dg_script.specs.Ranges.{EventInRange}
 use Rattle.dg_base.specs.declared.events.Cut.{Cut as PowerCut}
 use Rattle.dg_base.specs.declared.events.Event.{Event}
@@ -179,11 +180,11 @@ pub step_outcome : (w : RuleWorld) (x : Step) (reported : Bool) (v u : Option No
     → EventPlayed (Ok (Whole outcome)) w (mote_of x.event) (does w x.event) x.cut (host a v) (host b u) → frame ≡ outcome_frame outcome → end ≡ start ++ filter (is_reported reported) (outcome_lines (mote_of x.event) outcome)
     → Stepped (Ok frame) w x reported (board_state a v start) (board_state b u end)
 step_outcome w x reported v u frame (Refused why) a b start end known stands p sends told =
-    record { ends = refused_done w x reported v u frame why a b start end known stands p.ends.0 p.ends.1 p.ends.2 sends told; endures = p.endures; count = p.count }
-step_outcome w x reported v u frame Unreported a b start end known stands p sends told = record { ends = whole_done w x reported u frame Unreported b start end p.ends sends told; endures = p.endures; count = p.count }
-step_outcome w x reported v u frame (Sends f) a b start end known stands p sends told = record { ends = whole_done w x reported u frame (Sends f) b start end p.ends sends told; endures = p.endures; count = p.count }
-step_outcome w x reported v u frame (Changes k l) a b start end known stands p sends told = record { ends = whole_done w x reported u frame (Changes k l) b start end p.ends sends told; endures = p.endures; count = p.count }
-step_outcome w x reported v u frame (Starts k) a b start end known stands p sends told = record { ends = whole_done w x reported u frame (Starts k) b start end p.ends sends told; endures = p.endures; count = p.count }
+    record { ends = refused_done w x reported v u frame why a b start end known stands p.ends.0 p.ends.1 p.ends.2 sends told; endures = p.endures; count = p.count; made = p.made }
+step_outcome w x reported v u frame Unreported a b start end known stands p sends told = record { ends = whole_done w x reported u frame Unreported b start end p.ends sends told; endures = p.endures; count = p.count; made = p.made }
+step_outcome w x reported v u frame (Sends f) a b start end known stands p sends told = record { ends = whole_done w x reported u frame (Sends f) b start end p.ends sends told; endures = p.endures; count = p.count; made = p.made }
+step_outcome w x reported v u frame (Changes k l) a b start end known stands p sends told = record { ends = whole_done w x reported u frame (Changes k l) b start end p.ends sends told; endures = p.endures; count = p.count; made = p.made }
+step_outcome w x reported v u frame (Starts k) a b start end known stands p sends told = record { ends = whole_done w x reported u frame (Starts k) b start end p.ends sends told; endures = p.endures; count = p.count; made = p.made }
 
 -- the operations before a cut that fires are some of the event's
 blown_within : (cut : Option PowerCut) (t : Trail Store) → blows cut t ≡ true → before_cut cut ≤ operations t
@@ -205,9 +206,10 @@ pub step_cut : {T : Type 0} (w : RuleWorld) (x : Step) (reported : Bool) (v u : 
 step_cut {T} w x reported v u before q y a b c start mid end p is told off =
     let l : ReadAndTold (Ok y) (mote_of x.event) before p.ends.leaves.store b c start mid = subst (λ (z : Result T Fault). ReadAndTold z (mote_of x.event) before p.ends.leaves.store b c start mid) is told in
     record {
-      ends = cut_done w x reported before b c start mid end p.ends l.0 off l.1.0.same_image;
-      endures = Endures_then (beneath_of a) (beneath_of b) (beneath_of c) p.endures l.1.0.endures;
-      count = steady_then p.count l.1.1;
+      ends = cut_done w x reported before b c start mid end p.ends l.0 off l.1.read.same_image;
+      endures = Endures_then (beneath_of a) (beneath_of b) (beneath_of c) p.endures l.1.read.endures;
+      count = steady_then p.count l.1.stays;
+      made = subst (λ (n : ℕ). MadeMore n a.made c.made) (omega arith) (MadeMore_then (made_in w x) 0 a.made b.made c.made p.made l.1.made);
     }
 
 cut_halts : (T : Type 0) (f : Fault) (w : RuleWorld) (x : Step) (reported : Bool) (v u o : Option Node) (before k : Option ChipReport) (a b c : Device) (start end : List Report) → (p : EventPlayed (Ok (Cut before)) w (mote_of x.event) (does w x.event) x.cut (host a v) (host b u))
@@ -226,6 +228,7 @@ cut_halts T fault.Stopped w x reported v u o before k a b c start end p lines = 
   );
   endures = Endures_then (beneath_of a) (beneath_of b) (beneath_of c) p.endures lines.1.1.endures;
   count = tt;
+  made = tt;
 }
 cut_halts T fault.NotAVolume w x reported v u o before k a b c start end p lines = absurd lines.0
 cut_halts T fault.NoImage w x reported v u o before k a b c start end p lines = absurd lines.0
@@ -238,9 +241,9 @@ step_cut_halts {T} (Err y) q t f w x reported v u o before a b c start end is e 
     subst P (sym is) (cut_halts T f w x reported v u o before t.before a b c start end p (subst (λ (z : Result T Fault). ReadAndTold z (mote_of x.event) before p.ends.leaves.store b c start end) e lines))
 
 pub step_halts : (h : Halt) (w : RuleWorld) (x : Step) (reported : Bool) (v u : Option Node) (a b : Device) (told : List Report) → EventPlayed (Err h) w (mote_of x.event) (does w x.event) x.cut (host a v) (host b u) → Stepped (Err h) w x reported (board_state a v told) (board_state b u told)
-step_halts (Stopped k) w x reported v u a b told p = record { ends = (p.ends, refl); endures = p.endures; count = tt }
+step_halts (Stopped k) w x reported v u a b told p = record { ends = (p.ends, refl); endures = p.endures; count = tt; made = tt }
 step_halts NotAVolume w x reported v u a b told p = absurd p.ends
-step_halts NoImage w x reported v u a b told p = record { ends = (p.ends, refl); endures = p.endures; count = p.count }
+step_halts NoImage w x reported v u a b told p = record { ends = (p.ends, refl); endures = p.endures; count = p.count; made = p.made }
 
 pub step_fails : (r : Result (Unit {0}) Fault) (f : Fault) (t : Outcome) (w : RuleWorld) (x : Step) (reported : Bool) (v u : Option Node) (a b : Device) (told : List Report) → IsErrAnd r (λ e. e ≡ f)
     → EventPlayed (Err (halt_of f t.before)) w (mote_of x.event) (does w x.event) x.cut (host a v) (host b u) → Stepped (stepped r t) w x reported (board_state a v told) (board_state b u told)

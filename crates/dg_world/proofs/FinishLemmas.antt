@@ -1,5 +1,5 @@
 -- The last lines, read from boards one after the other.
-use Rattle.std.proofs.Common.{◌≡◌, ℕ, ◌+◌, ◌-◌, ◌<◌, ◌≤◌, inl, inr, List, [], ◌∷◌, ◌++◌, length, map, get_or, append-nil, append_assoc, refl, ap, sym, ◌∙◌, subst, arith}
+use Rattle.std.proofs.Common.{◌≡◌, ℕ, ◌+◌, ◌-◌, ◌<◌, ◌≤◌, inl, inr, false, List, [], ◌∷◌, ◌++◌, length, map, get_or, append-nil, append_assoc, refl, ap, sym, ◌∙◌, subst, arith}
 use Rattle.std.specs.Prelude.{Option, Some, None, Result, Err, slice_get, slice_index_or, option_to_list}
 use Rattle.std.specs.List.{flat_map, filter_map, cons_option, range_with_len}
 use Rattle.std.proofs.lemmas.Bool.{cases_eq}
@@ -7,10 +7,10 @@ use Rattle.std.proofs.lemmas.List.{length-map}
 use Rattle.std.proofs.lemmas.List.Concat.{flat_map-append}
 use Rattle.std.proofs.lemmas.List.Elements.{filter_map-append}
 use Rattle.std.proofs.lemmas.Option.{slice_get-get_or, get_or_from_slice_get}
-use Rattle.dg_nor.specs.Device.{Device, Endures}
+use Rattle.dg_nor.specs.Device.{Device, Endures, MadeMore, Interrupted}
 use Rattle.dg_nor.specs.Fuse.{beneath_of}
 use Rattle.dg_nor.specs.Reads.{ReadStopped}
-use Rattle.dg_nor.proofs.MaskLemmas.{Endures_halts}
+use Rattle.dg_nor.proofs.DeviceLemmas.{Endures-same, MadeMore-none}
 use Rattle.dg_control.specs.Store.{IsOrderlyChip}
 use Rattle.dg_slot.specs.Kept.{Held}
 use Rattle.dg_volume.specs.Sizes.{images}
@@ -32,6 +32,7 @@ use Rattle.dg_node.specs.declared.report.ChipReport.{ChipReport}
 use Rattle.dg_node.specs.declared.node.Node.{Node}
 use Rattle.dg_world.specs.declared.world.World.{World}
 use Rattle.dg_world.proofs.BoardLemmas.{Used, same_some}
+use Rattle.dg_world.proofs.CountLemmas.{worked_halts}
 use Rattle.dg_world.proofs.FormatLemmas.{same_err, first_more, unused, is_now, differs_from_kept}
 use Rattle.dg_world.proofs.ChipReportLemmas.{range_more, same_over}
 
@@ -91,11 +92,28 @@ sites_more f n =
 pub record ReadTo (n : ℕ) (old new : List Device) : Type 0 where
   pub first : FirstBoards n old new
   pub images : (m : ℕ) (a b : Device) → slice_get old m ≡ Some a → slice_get new m ≡ Some b → b.image ≡ a.image
+  pub none_made : (m : ℕ) (a b : Device) → slice_get old m ≡ Some a → slice_get new m ≡ Some b → b.stopped ≡ false → MadeMore 0 a.made b.made
 
-pub read_more : (n : ℕ) (old now new : List Device) (d e : Device) → ReadTo n old now → Used n now new d e → Endures (beneath_of d) (beneath_of e) → e.image ≡ d.image → ReadTo (n + 1) old new
+first_none : (ds : List Device) → FirstBoards 0 ds ds
+first_none ds = record {
+  count = refl;
+  others = λ m h. refl;
+  counts = λ m a b here there. let e : a ≡ b = same_some a b (sym here ∙ there) in omega (arith, ap (λ (x : Device). x.faults) e);
+  endures = λ m a b here there. subst (λ (x : Device). Endures (beneath_of a) (beneath_of x)) (same_some a b (sym here ∙ there)) (Endures-same (beneath_of a));
+}
+
+-- none was read yet
+pub read_none : (ds : List Device) → ReadTo 0 ds ds
+read_none ds = record {
+  first = first_none ds;
+  images = λ m a b here there. ap (λ (x : Device). x.image) (same_some b a (sym there ∙ here));
+  none_made = λ m a b here there awake. subst (λ (x : Device). MadeMore 0 a.made x.made) (same_some a b (sym here ∙ there)) (MadeMore-none a.made);
+}
+
+pub read_more : (n : ℕ) (old now new : List Device) (d e : Device) → ReadTo n old now → Used n now new d e → Interrupted 0 (beneath_of d) (beneath_of e) → e.image ≡ d.image → ReadTo (n + 1) old new
 read_more n old now new d e to used kept same =
     record {
-      first = first_more n old now new d e to.first used kept;
+      first = first_more n old now new d e to.first used kept.endures;
       images = λ m a b here there. elim (cases_eq m n) [
         | inl at ↦
             let p : d ≡ a = same_some d a (sym (unused n old now new d e to.first used) ∙ ap (slice_get old) (sym at) ∙ here) in
@@ -103,10 +121,17 @@ read_more n old now new d e to used kept same =
             ap (λ (x : Device). x.image) q ∙ same ∙ ap (λ (x : Device). x.image) p
         | inr other ↦ to.images m a b here (sym (differs_from_kept n m now new d e used other) ∙ there)
       ];
+      none_made = λ m a b here there awake. elim (cases_eq m n) [
+        | inl at ↦
+            let p : d ≡ a = same_some d a (sym (unused n old now new d e to.first used) ∙ ap (slice_get old) (sym at) ∙ here) in
+            let q : e ≡ b = same_some e b (sym (is_now n now new d e used) ∙ ap (slice_get new) (sym at) ∙ there) in
+            subst (λ (x : Device). MadeMore 0 x.made b.made) p (subst (λ (x : Device). MadeMore 0 d.made x.made) q (kept.made (ap (λ (x : Device). x.stopped) q ∙ awake)))
+        | inr other ↦ to.none_made m a b here (sym (differs_from_kept n m now new d e used other) ∙ there) awake
+      ];
     }
 
 pub same_boards : (n : ℕ) (old new : List Device) → ReadTo n old new → SameBoards old new
-same_boards n old new to = record { count = to.first.count; images = to.images; counts = to.first.counts; endures = to.first.endures }
+same_boards n old new to = record { count = to.first.count; images = to.images; counts = to.first.counts; endures = to.first.endures; none_made = to.none_made }
 
 pub read_flash : (n : ℕ) (old now new : List Device) (d e : Device) → ReadTo n old now → Used n now new d e → ReadStopped d e → ReadFlash n old new
 read_flash n old now new d e to used stopped =
@@ -166,5 +191,5 @@ read_at motes n x within at = at ∙ sym (get_or_from_slice_get motes n (get_or 
 pub boards_there : {N : Type 0} (f : N → Device) (old now : List N) (v : World) (w : RuleWorld) (n : ℕ) → length now ≡ length old → IsWorld v (map f old) w → n < length v.motes.items → n < length now
 boards_there f old now v w n same is within = omega (arith, within, same, is.motes, is.boards_enough, length-map old f)
 
-pub read_endures : (a b : Device) → ReadStopped a b → Endures (beneath_of a) (beneath_of b)
-read_endures a b s = Endures_halts s.halts
+pub read_endures : (a b : Device) → ReadStopped a b → Interrupted 0 (beneath_of a) (beneath_of b)
+read_endures a b s = worked_halts 0 s.halts

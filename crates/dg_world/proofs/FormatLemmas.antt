@@ -3,9 +3,8 @@ use Rattle.std.proofs.Common.{◌≡◌, ◌≢◌, ℕ, ◌+◌, ◌<◌, ◌�
 use Rattle.std.specs.Prelude.{Some, Result, Err, slice_get}
 use Rattle.std.proofs.Math.ListN.{length-set}
 use Rattle.std.proofs.lemmas.Bool.{cases_eq, both_ways}
-use Rattle.dg_nor.specs.Device.{Device, Endures, Ran}
+use Rattle.dg_nor.specs.Device.{Device, Endures}
 use Rattle.dg_nor.specs.Fuse.{beneath_of}
-use Rattle.dg_nor.proofs.MaskLemmas.{Endures_ran}
 use Rattle.dg_nor.specs.Reads.{ActStopped}
 use Rattle.dg_control.specs.Store.{HasForm}
 use Rattle.dg_volume.specs.Sizes.{new_form}
@@ -114,9 +113,6 @@ board_of board e motes chip old new is stops =
     let same : record { board = board } ≡ e = same_err _ _ is in
     subst (λ (x : FormatStopped). FormatStops x.board motes chip old new) same stops
 
--- what holds of a board that ran, or that stopped
-pub ran_endures : {n : ℕ} (a b : Device) → Ran n a b → Endures (beneath_of a) (beneath_of b)
-ran_endures a b r = Endures_ran r
-
+-- what holds of a board that stopped
 pub stopped_endures : (a b : Device) → ActStopped a b → Endures (beneath_of a) (beneath_of b)
 stopped_endures a b s = record { faults = s.faults; cause = λ h. s.cause; stays = λ was. s.stopped; calm = λ awake. absurd (both_ways b.stopped awake s.stopped) }

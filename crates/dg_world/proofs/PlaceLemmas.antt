@@ -5,7 +5,7 @@ use Rattle.std.proofs.Math.ListN.{length-set}
 use Rattle.std.proofs.lemmas.List.{get_or-set_same, get_or-set_other, get_or_read}
 use Rattle.std.proofs.lemmas.Option.{same_Some}
 use Rattle.std.proofs.lemmas.Bool.{both_ways}
-use Rattle.dg_nor.specs.Device.{Device, Endures}
+use Rattle.dg_nor.specs.Device.{Device, Endures, MadeMore}
 use Rattle.dg_nor.specs.Fuse.{beneath_of}
 use Rattle.dg_nor.proofs.DeviceLemmas.{Endures-same}
 use Rattle.dg_nor.specs.Trail.{last}
@@ -25,6 +25,7 @@ use Rattle.dg_rules.specs.World.{World as RuleWorld, Running, Site, Sent, no_sit
 use Rattle.dg_rules.specs.Premises.{WorldTimely}
 use Rattle.dg_rules.specs.Events.{does, mote_of, dt_of}
 use Rattle.dg_rules.specs.Steps.{cut_world, WorldStep}
+use Rattle.dg_rules.specs.Made.{made_in}
 use Rattle.dg_base.specs.declared.events.Step.{Step}
 use Rattle.dg_script.specs.declared.report.Report.{Report}
 use Rattle.dg_object.specs.Object.{Row}
@@ -36,7 +37,7 @@ use Rattle.dg_shared.specs.Neighbours.{KnowsLinks}
 use Rattle.dg_world.specs.Worlds.{MoteStands, SiteStands, MayRun, IsWorld}
 use Rattle.dg_world.specs.Counts.{AreSteady, IsSteady}
 use Rattle.dg_world.proofs.CountLemmas.{steady_same}
-use Rattle.dg_world.specs.Applied.{OneBoard, Applied, FlashAt, RunEnded}
+use Rattle.dg_world.specs.Applied.{MadeOn, OneBoard, Applied, FlashAt, RunEnded}
 use Rattle.dg_world.specs.inner.Outcomes.{fault_of}
 use Rattle.dg_world.specs.Deployments.{Deployment, deployed}
 use Rattle.dg_world.specs.Cuts.{IsStopped, StepFoundNoImage}
@@ -107,6 +108,13 @@ calm_board bs i a b known here kept = λ k p q old new.
     subst (λ (d : Device). IsSteady p d) (sym eq) (subst (λ (d : Device). IsSteady d b) (sym ep) kept))
     (λ other. subst (λ (d : Device). IsSteady p d) (same_of (slice_get bs k) p q old (sym (get_set_other bs i k b other) ∙ new)) (steady_same p))
     (is_or k i)
+
+-- what was made on that board
+made_board : (bs : List Device) (i n : ℕ) (a b : Device) → i < length bs → slice_get bs i ≡ Some a → MadeMore n a.made b.made → MadeOn i n bs (set bs i b)
+made_board bs i n a b known here made = λ p q old new.
+    let ep : p ≡ a = same_of (slice_get bs i) p a old here in
+    let eq : q ≡ b = same_of (slice_get (set bs i b) i) q b new (get_set_same bs i b known) in
+    subst (λ (d : Device). MadeMore n p.made d.made) (sym eq) (subst (λ (d : Device). MadeMore n d.made b.made) (sym ep) made)
 
 -- ---- the world afterwards
 
@@ -188,8 +196,8 @@ module _ (v u : World) (bs : List Device) (w : RuleWorld) (x : Step) (reported :
     orderly = orderly_then;
   }
 
-  pub applied : (a : Device) → v.events < most_events → dt_of x.event < 2 ^ 32 → WorldTimely s.world → slice_get bs i ≡ Some a → Endures (beneath_of a) (beneath_of b) → IsSteady a b → Applied w x reported (deployed v bs start) (deployed u (set bs i b) end)
-  applied a few short timely here endures stays =
+  pub applied : (a : Device) → v.events < most_events → dt_of x.event < 2 ^ 32 → WorldTimely s.world → slice_get bs i ≡ Some a → Endures (beneath_of a) (beneath_of b) → IsSteady a b → MadeMore (made_in w x) a.made b.made → Applied w x reported (deployed v bs start) (deployed u (set bs i b) end)
+  applied a few short timely here endures stays made =
       let wide : i < length bs = omega (arith, known, is.boards_enough) in
       record {
         world = s.world;
@@ -199,6 +207,7 @@ module _ (v u : World) (bs : List Device) (w : RuleWorld) (x : Step) (reported :
         report_now = s.report_now;
         boards = subst (λ (j : ℕ). OneBoard j bs (set bs i b)) at (one_board bs i a b wide here endures);
         calm = calm_board bs i a b wide here stays;
+        made = subst (λ (j : ℕ). MadeOn j (made_in w x) bs (set bs i b)) at (made_board bs i (made_in w x) a b wide here made);
         memory = λ d r e goes whole some there.
             let eb : e ≡ b = same_of (slice_get (set bs i b) i) e b (ap (slice_get (set bs i b)) at ∙ there) (get_set_same bs i b wide) in
             subst (λ (y : Device). program y.image (length r.pages) ≡ r.pages) (sym eb) (s.memory d r goes whole some);
@@ -223,9 +232,9 @@ flashed v bs w x i a b is at known here endures s =
       boards = one_board bs i a b wide here endures;
     }
 
-pub lacked : (v : World) (bs : List Device) (w : RuleWorld) (x : Step) (i : ℕ) (a b : Device) → IsWorld v bs w → i ≡ mote_of x.event → i < length w.sites → slice_get bs i ≡ Some a → Endures (beneath_of a) (beneath_of b) → IsSteady a b
+pub lacked : (v : World) (bs : List Device) (w : RuleWorld) (x : Step) (i : ℕ) (a b : Device) → IsWorld v bs w → i ≡ mote_of x.event → i < length w.sites → slice_get bs i ≡ Some a → Endures (beneath_of a) (beneath_of b) → IsSteady a b → MadeMore (made_in w x) a.made b.made
     → StepFoundNoImage (does w x.event) x.cut b.image → RunEnded w x bs (set bs i b)
-lacked v bs w x i a b is at known here endures stays s =
+lacked v bs w x i a b is at known here endures stays made s =
     let wide : i < length bs = omega (arith, known, is.boards_enough) in
     let m = mote_of x.event in
     let then_site : Site = record { store = last s.effect.trail; runs = None } in
@@ -250,6 +259,7 @@ lacked v bs w x i a b is at known here endures stays s =
           (is_or k i);
       boards = subst (λ (j : ℕ). OneBoard j bs (set bs i b)) at (one_board bs i a b wide here endures);
       calm = calm_board bs i a b wide here stays;
+      made = subst (λ (j : ℕ). MadeOn j (made_in w x) bs (set bs i b)) at (made_board bs i (made_in w x) a b wide here made);
     }
 
 pub got_or : {N : Type 0} (f : N → Device) (xs : List N) (i : ℕ) (d : N) → i < length xs → slice_get (map f xs) i ≡ Some (f (get_or xs i d))
@@ -292,14 +302,14 @@ halts_at (Stopped k) f v u bs w x reported was runs i mote a b start end is_faul
 halts_at NotAVolume f v u bs w x reported was runs i mote a b start end is_fault same is at known here s = absurd s.ends
 halts_at NoImage f v u bs w x reported was runs i mote a b start end is_fault same is at known here s =
     let P : WorldFault → Type 0 = λ y. ApplyEnds (Err y) w x reported (deployed v bs start) (deployed u (set bs i b) end) in
-    subst P (sym is_fault) (lacked v bs w x i a b is at known here s.endures s.count s.ends.0, s.ends.1)
+    subst P (sym is_fault) (lacked v bs w x i a b is at known here s.endures s.count s.made s.ends.0, s.ends.1)
 
 -- the same over boards that are given by an equation
 pub applied_at : (v u : World) (bs cs : List Device) (w : RuleWorld) (x : Step) (reported : Bool) (i : ℕ) (was runs : Option Node) (frame : Option (List ℕ)) (a b : Device) (start end : List Report) → cs ≡ set bs i b → IsWorld v bs w → i ≡ mote_of x.event → i < length w.sites → v.events < most_events → dt_of x.event < 2 ^ 32
     → Moves v u i (w.moment + dt_of x.event) runs frame → KnownKeeps v u i b → slice_get bs i ≡ Some a → (s : Stepped (Ok frame) w x reported (board_state a was start) (board_state b runs end)) → ((z : RuleWorld) (reports : List Report) → WorldStep w x z reports → WorldTimely z) → Applied w x reported (deployed v bs start) (deployed u cs end)
 applied_at v u bs cs w x reported i was runs frame a b start end e is at known few short moves keeps here s timely =
     subst (λ (ds : List Device). Applied w x reported (deployed v bs start) (deployed u ds end)) (sym e)
-    (applied v u bs w x reported i runs frame b start end is at known moves keeps s.ends a few short (timely s.ends.world s.ends.reports s.ends.step) here s.endures s.count)
+    (applied v u bs w x reported i runs frame b start end is at known moves keeps s.ends a few short (timely s.ends.world s.ends.reports s.ends.step) here s.endures s.count s.made)
 
 pub halts_there : (h : Halt) (f : WorldFault) (v u : World) (bs cs : List Device) (w : RuleWorld) (x : Step) (reported : Bool) (was runs : Option Node) (i mote : ℕ) (a b : Device) (start end : List Report) → cs ≡ set bs i b → f ≡ fault_of h mote → i ≡ mote → IsWorld v bs w → i ≡ mote_of x.event → i < length w.sites
     → slice_get bs i ≡ Some a → Stepped (Err h) w x reported (board_state a was start) (board_state b runs end) → ApplyEnds (Err f) w x reported (deployed v bs start) (deployed u cs end)

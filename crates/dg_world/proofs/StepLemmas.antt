@@ -6,13 +6,13 @@ use Rattle.dg_nor.specs.Device.{Device}
 use Rattle.dg_nor.specs.Fuse.{beneath_of}
 use Rattle.dg_nor.specs.Reads.{Looked, ReadStopped}
 use Rattle.dg_volume.specs.Stands.{Stands}
-use Rattle.dg_nor.proofs.DeviceLemmas.{Endures-same}
+use Rattle.dg_nor.proofs.DeviceLemmas.{Endures-same, MadeMore-none}
 use Rattle.dg_nor.proofs.MaskLemmas.{Endures_ran, Endures_halts}
 use Rattle.dg_volume.specs.Store.{Store}
 use Rattle.dg_script.specs.declared.report.Report.{Report}
 use Rattle.dg_world.specs.inner.ChipReports.{change_lines}
 use Rattle.dg_node.specs.Reports.{IsReportOf}
-use Rattle.dg_world.specs.inner.Steps.{BoardOnlyRead, CutChangesAre, CutReported, CutRead}
+use Rattle.dg_world.specs.inner.Steps.{BoardOnlyRead, BoardRead, CutChangesAre, CutReported, CutRead}
 use Rattle.dg_node.specs.declared.report.ChipReport.{ChipReport}
 use Rattle.dg_world.proofs.ChipReportLemmas.{changes_same, changes_are_reported}
 use Rattle.dg_world.specs.declared.outcome.Fault.{Fault}
@@ -53,10 +53,10 @@ abbrev pub ReadAndTold : {T : Type 0} → Result T Fault → ℕ → Option Chip
 ReadAndTold r m before t a b start end = CutReported r m before t start end × CutRead r a b
 
 pub read_told : {T : Type 0} (y : T) (m : ℕ) (before : Option ChipReport) (t : Store) (a b : Device) (start end : List Report) → CutChangesAre m before t start end → Looked a b → ReadAndTold {T = T} (Ok y) m before t a b start end
-read_told y m before t a b start end changes looked = (changes, (looked_read a b looked, steady_ran looked.ran))
+read_told y m before t a b start end changes looked = (changes, record { read = looked_read a b looked; stays = steady_ran looked.ran; made = looked.ran.made })
 
 pub unread_told : {T : Type 0} (y : T) (m : ℕ) (before : Option ChipReport) (t : Store) (a : Device) (told : List Report) → before ≡ None → ReadAndTold {T = T} (Ok y) m before t a a told told
-unread_told y m before t a told none = (nothing_changed m before t told none, (same_read a, steady_same a))
+unread_told y m before t a told none = (nothing_changed m before t told none, record { read = same_read a; stays = steady_same a; made = MadeMore-none a.made })
 
 stopped_told : (T : Type 0) (f : Fault) (m : ℕ) (before : Option ChipReport) (t : Store) (a b : Device) (told : List Report) → (f ≡ fault.Stopped) × ReadStopped a b → ReadAndTold {T = T} (Err f) m before t a b told told
 stopped_told T f m before t a b told x =

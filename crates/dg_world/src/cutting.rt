@@ -1,5 +1,5 @@
 //! An event at a board whose power may be cut in the middle of it.
-ghost use Rattle.std.specs.Prelude.{◌≡◌, ◌∷◌, false, ◌&&◌, not, ◌≤◌, ◌<◌, ℕ, Some, Ok};
+ghost use Rattle.std.specs.Prelude.{◌≡◌, ◌∷◌, false, ◌&&◌, not, ◌≤◌, ◌<◌, ℕ, Some, None, Ok};
 ghost use Rattle.dg_nor.specs.Fuse.{inner_of, name_of, mask_of, fused_device, before, beneath_of};
 ghost use Rattle.dg_rules.specs.Sizes.{most_motes};
 ghost use Rattle.dg_rules.specs.World.{World as RuleWorld};
@@ -43,6 +43,7 @@ fn fuse_of<'a, N: Nor>(cut: &'a Cut, board: &'a mut N) -> Fused<'a, N>
       left = before (Some cut.now.after);
       taken = (N.device board.old).taken;
       blown = false;
+      made = None;
       references = board.entry.ghost_name ∷ (N.device board.old).references;
       beneath = Some (beneath_of (N.device board.old));
     } }

@@ -2,16 +2,17 @@
 use Rattle.std.specs.Prelude.{◌≡◌, ℕ, Bool, true, false, List, Option, Result, Ok, Err}
 use Rattle.dg_nor.specs.Device.{Endures}
 use Rattle.dg_nor.specs.Fuse.{beneath_of}
-use Rattle.dg_nor.specs.Trail.{MayLeave}
+use Rattle.dg_nor.specs.Trail.{operations, MayLeave}
 use Rattle.dg_volume.specs.Store.{IsNear}
 use Rattle.dg_volume.specs.Stands.{Stands}
 use Rattle.dg_rules.specs.World.{World as RuleWorld, store_at}
-use Rattle.dg_rules.specs.Events.{EventEffect, Does, Refuses, Goes}
+use Rattle.dg_rules.specs.Events.{EventEffect, Does, Refuses, Goes, trail_of}
 use Rattle.dg_rules.specs.Steps.{blows, before_cut}
+use Rattle.dg_rules.specs.Made.{made_by}
 use Rattle.dg_base.specs.declared.events.Cut.{Cut as PowerCut}
 use Rattle.dg_world.specs.Cuts.{IsStopped, StepFoundNoImage}
 use Rattle.dg_world.specs.inner.OutcomeEndings.{ReportsEffect, BeforeReports}
-use Rattle.dg_world.specs.inner.Counts.{CountStays}
+use Rattle.dg_world.specs.inner.Counts.{CountStays, MadeUnless}
 use Rattle.dg_node.specs.Hosts.{Host}
 use Rattle.dg_node.specs.declared.report.ChipReport.{ChipReport}
 use Rattle.dg_node.specs.declared.node.Node.{Node}
@@ -56,9 +57,11 @@ PlayEnds (Err NoImage) w m does cut a b = StepFoundNoImage does cut b.board.imag
 PlayEnds (Err NotAVolume) w m does cut a b = ⊥
 
 -- The event ended so, and the board's count did not fall: it is stopped only if it was before, or if its count rose. The count
--- does not change unless the board stopped, even where a cut fired.
+-- does not change unless the board stopped, even where a cut fired. The operations of the event's trail were made, up to the one
+-- that the cut interrupted.
 pub record EventPlayed (r : Result EventEnded Halt) (w : RuleWorld) (m : ℕ) (does : Does) (cut : Option PowerCut)
     (a b : Host) : Type 0 where
   pub ends : PlayEnds r w m does cut a b
   pub endures : Endures (beneath_of a.board) (beneath_of b.board)
   pub count : CountStays r a.board b.board
+  pub made : MadeUnless r (made_by cut (operations (trail_of does (store_at w m)))) a.board b.board

@@ -1,11 +1,12 @@
 -- What a step reports, and how it leaves its board.
 use Rattle.std.specs.Prelude.{◌≡◌, ℕ, Bool, true, length, List, ◌++◌, Option, Result, Ok, Err, OnOk, OnErr, IsTrue}
-use Rattle.dg_nor.specs.Device.{Device, Endures}
+use Rattle.dg_nor.specs.Device.{Device, Endures, MadeMore}
 use Rattle.dg_nor.specs.Fuse.{beneath_of}
 use Rattle.dg_nor.specs.Trail.{Trail, Leaves}
 use Rattle.dg_volume.specs.Store.{Store, IsNear}
 use Rattle.dg_rules.specs.World.{World as RuleWorld}
 use Rattle.dg_rules.specs.Events.{does, mote_of}
+use Rattle.dg_rules.specs.Made.{made_in}
 use Rattle.dg_base.specs.declared.events.Step.{Step}
 use Rattle.dg_rules.specs.Changes.{changes}
 use Rattle.dg_script.specs.declared.report.Report.{Report}
@@ -17,7 +18,7 @@ use Rattle.dg_world.specs.inner.Contexts.{AppliesIn}
 use Rattle.dg_world.specs.inner.Outcomes.{stepped}
 use Rattle.dg_shared.specs.Unseen.{RefusesUnseen}
 use Rattle.dg_world.specs.Counts.{IsSteady}
-use Rattle.dg_world.specs.inner.Counts.{CountStays}
+use Rattle.dg_world.specs.inner.Counts.{CountStays, MadeUnless}
 use Rattle.dg_world.specs.Cuts.{IsStopped, StepFoundNoImage}
 use Rattle.dg_world.specs.inner.OutcomeEndings.{BeforeReports}
 use Rattle.dg_shared.specs.declared.context.EventContext.{EventContext}
@@ -47,9 +48,15 @@ CutReported (Err fault.Stopped) m before t report_before report = report ≡ rep
 CutReported (Err fault.NotAVolume) m before t report_before report = ⊥
 CutReported (Err fault.NoImage) m before t report_before report = ⊥
 
+-- The board was only read, and goes on.
+pub record BoardRead (old new : Device) : Type 0 where
+  pub read : BoardOnlyRead old new
+  pub stays : IsSteady old new
+  pub made : MadeMore 0 old.made new.made
+
 -- how that look leaves the board, which is only read
 abbrev pub CutRead : {T : Type 0} → Result T Fault → Device → Device → Type 0
-CutRead (Ok u) old new = BoardOnlyRead old new × IsSteady old new
+CutRead (Ok u) old new = BoardRead old new
 CutRead (Err fault.Stopped) old new = (new.stopped ≡ true) × BoardOnlyRead old new
 CutRead (Err fault.NotAVolume) old new = ⊥
 CutRead (Err fault.NoImage) old new = ⊥
@@ -65,12 +72,13 @@ StepEnds (Err NoImage) w x reported report_before b = StepFoundNoImage (does w x
 StepEnds (Err NotAVolume) w x reported report_before b = ⊥
 
 -- The step ended so at its board, and the `board_state` of its mote was a and is b. The board's count did not fall, and does
--- not change unless the board stopped.
+-- not change unless the board stopped. The operations of the event's trail were made, up to the one that its cut interrupted.
 pub record Stepped (r : Result (Option (List ℕ)) Halt) (w : RuleWorld) (x : Step) (reported : Bool) (a b : BoardState)
     : Type 0 where
   pub ends : StepEnds r w x reported a.reported b
   pub endures : Endures (beneath_of a.board) (beneath_of b.board)
   pub count : CountStays r a.board b.board
+  pub made : MadeUnless r (made_in w x) a.board b.board
 
 -- What a step that answers r and has this outcome did at the `board_state` of its mote.
 pub record StepDid (r : Result (Unit {0}) Fault) (o : EventContext) (x : Step) (t : Outcome) (a b : BoardState) : Type 0 where

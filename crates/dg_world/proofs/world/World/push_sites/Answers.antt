@@ -2,8 +2,8 @@ use Rattle.std.proofs.Common.{◌<◌, ◌++◌, refl, sym, ◌∙◌, length, a
 use Rattle.dg_rules.specs.Changes.{site_lines}
 use Rattle.dg_rules.specs.World.{site}
 use Rattle.dg_world.proofs.BoardLemmas.{used_at}
-use Rattle.dg_world.proofs.CountLemmas.{steady_ran}
-use Rattle.dg_world.proofs.FormatLemmas.{ran_endures, calm_more}
+use Rattle.dg_world.proofs.CountLemmas.{steady_ran, worked_ran}
+use Rattle.dg_world.proofs.FormatLemmas.{calm_more}
 use Rattle.dg_world.proofs.FinishLemmas.{read_endures, boards_there, sites_more, read_more, same_boards, read_flash, still_world, next_site, is_volume, flash_of, read_at}
 use Rattle.dg_world.proofs.ChipReportLemmas.{told_then}
 use Rattle.dg_world.proofs.world.World.push_sites.Goals as goal
@@ -51,7 +51,7 @@ loop-mote-preserved g c =
           (c.in-Ok.ensures.reported (site w c.loop-mote.mote) (next_site _ w _ _ _ _ _ is i.read used.before within at))
           (sym (sites_more (λ m. site_lines m (site w m)) c.loop-mote.mote));
       begun = (i.begun.0 ++ c.push_site.ensures.begun.0, told_then c.args.out.now.items c.loop-mote.out.items c.push_site.new.out.items _ _ _ i.begun.1 c.push_site.ensures.begun.1 refl);
-      read = read_more _ _ _ _ _ _ i.read used (ran_endures _ _ looked.ran) looked.same_image;
+      read = read_more _ _ _ _ _ _ i.read used (worked_ran looked.ran) looked.same_image;
       calm = calm_more _ _ _ _ _ _ i.read.first used i.calm (steady_ran looked.ran);
       room = c.push_site.ensures.capacity ∙ i.room;
       few = omega (arith, i.few, c.push_site.ensures.few);
