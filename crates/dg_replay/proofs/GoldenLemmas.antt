@@ -38,7 +38,7 @@ use Rattle.dg_replay.specs.Replaying.{Reached, TextRead}
 use Rattle.dg_replay.specs.Shown.{Saw}
 use Rattle.dg_replay.specs.Stages.{line_told, span}
 use Rattle.dg_replay.specs.declared.player.Player.{Player}
-use Rattle.dg_replay.proofs.ItemLemmas.{motes_same, runs_append, runs_from_none}
+use Rattle.dg_replay.proofs.ItemLemmas.{motes_same, runs_append}
 use Rattle.dg_nor.specs.Device.{Device}
 use Rattle.dg_replay.proofs.FirstLemmas.{run_or, first_run}
 use Rattle.dg_replay.proofs.GoldenRuns.{ByBoards, all_front, ScriptRun, GoldenRun, ran_network, BoardsRun, script_run, golden_of, boards_of, golden_run}

@@ -193,11 +193,11 @@ ended_in w x reported v initial old new text F G may is e shown last stands = re
 }
 
 -- which a watcher was shown as the end
-pub ended_shown : (w : World) (event : Event) (cut : Option PowerCut) (v : KeptWorld) (initial old new : List Device) (F G : Saw) → MayStep v old (step_of event cut) → IsWorld v old w → WorldStands w initial old → w.events < most_events → RunEnded w (step_of event cut) old new
-    → ((stores : List Store) (events : List Played) (u : World) → LeadTo stores events u → IsEnding u event new → F.events stores events → G.events stores events) → Shows F G w []
+pub ended_shown : (w : World) (event : Event) (cut : Option PowerCut) (v : KeptWorld) (initial old new : List Device) (F : List Device → Saw) (G : Saw) → MayStep v old (step_of event cut) → IsWorld v old w → WorldStands w initial old → w.events < most_events → RunEnded w (step_of event cut) old new
+    → ((stores : List Store) (events : List Played) (u : World) → LeadTo stores events u → (x : IsEnding u event new) → (F x.before).events stores events → G.events stores events) → Shows (F old) G w []
 ended_shown w event cut v initial old new F G may is stands few e ended = λ stores events lead f.
     let awake : AreAwake (length e.world.sites) new = standing_awake e.world initial new (ended_stands w (step_of event cut) v initial old new may is e stands) in
-    subst (λ (es : List Played). G.events stores es) (sym (append-nil events)) (ended stores events w lead (record { few = few; cut = cut; after = e.world; ends = e.ends; stand = e.stood; awake = awake }) f)
+    subst (λ (es : List Played). G.events stores es) (sym (append-nil events)) (ended stores events w lead (record { few = few; cut = cut; after = e.world; ends = e.ends; stand = e.stood; awake = awake; before = old; one = e.boards; calm = e.calm; made = e.made }) f)
 
 -- it was applied, and this is the outcome of reporting it
 pub told_as : (r : Result (Unit {0}) Stop) (w : World) (x : Step) (reported : Bool) (v v2 : KeptWorld) (initial old new : List Device) (before reports : List Report) (report_before told : Told) → before ≡ [] → MayStep v old x → (a : Applied w x reported (deployed v old before) (deployed v2 new reports)) → Shows report_before.saw told.saw w (applied_one a reports ∷ [])
@@ -208,15 +208,15 @@ told_as (Err stop) w x reported v v2 initial old new before reports report_befor
     subst (λ (e : Stop). ItemsPlayedAs (Err e) w (Applies x reported ∷ []) v2 initial report_before (boards_told new told)) (sym same) (applied_untold w x reported v v2 initial old new before reports report_before.saw told.saw none may a shown is stands)
 
 -- which a watcher was shown
-pub applied_shown : (w : World) (event : Event) (cut : Option PowerCut) (reported : Bool) (v v2 : KeptWorld) (initial old new : List Device) (before reports shown : List Report) (F G : Saw) → before ≡ [] → shown ≡ reports → MayStep v old (step_of event cut) → IsWorld v old w → WorldStands w initial old
+pub applied_shown : (w : World) (event : Event) (cut : Option PowerCut) (reported : Bool) (v v2 : KeptWorld) (initial old new : List Device) (before reports shown : List Report) (F : List Device → Saw) (G : Saw) → before ≡ [] → shown ≡ reports → MayStep v old (step_of event cut) → IsWorld v old w → WorldStands w initial old
     → (done : ApplyDone (Ok tt) (step_of event cut) reported (deployed v old before) (deployed v2 new reports)) → (a : Applied w (step_of event cut) reported (deployed v old before) (deployed v2 new reports))
-    → ((stores : List Store) (events : List Played) (p : Played) → LeadTo stores events p.before → IsApplied p event reported (deployed v2 new shown) → F.events stores events → G.events stores (events ++ p ∷ [])) → Shows F G w (applied_one a reports ∷ [])
+    → ((stores : List Store) (events : List Played) (p : Played) → LeadTo stores events p.before → (x : IsApplied p event reported (deployed v2 new shown)) → (F x.before.boards).events stores events → G.events stores (events ++ p ∷ [])) → Shows (F old) G w (applied_one a reports ∷ [])
 applied_shown w event cut reported v v2 initial old new before reports shown F G none same may is stands done a applied = λ stores events lead f.
     let told : reports ≡ filter (is_reported reported) a.reports = a.report_now ∙ ap (λ (rs : List Report). rs ++ filter (is_reported reported) a.reports) none in
-    let there : IsApplied (applied_one a reports) event reported (deployed v2 new reports) = record {
+    let there : IsApplied (applied_one a reports) event reported (deployed v2 new shown) = record {
       cut = cut;
       item = refl;
-      told = refl;
+      told = sym same;
       step = (a.reports, a.step, told);
       few = a.stood.few_events;
       before = deployed v old before;
@@ -224,9 +224,9 @@ applied_shown w event cut reported v v2 initial old new before reports shown F G
       none = none;
       stands = a.stood;
       awake = standing_awake a.world initial new (applied_stands w (step_of event cut) reported v v2 initial old new before reports may is stands a);
-      done = done;
+      done = subst (λ (rs : List Report). ApplyDone (Ok tt) (step_of event cut) reported (deployed v old before) (deployed v2 new rs)) (sym same) done;
     } in
-    applied stores events (applied_one a reports) lead (subst (λ (rs : List Report). IsApplied (applied_one a reports) event reported (deployed v2 new rs)) (sym same) there) f
+    applied stores events (applied_one a reports) lead there f
 
 -- the world that is kept after an event
 pub goes_on : (r : Result (Unit {0}) Stop) (k k2 : KeptWorld) (old new : List Device) → ((w : World) → IsWorld k old w → (u : World) × IsWorld k2 new u × (length u.sites ≡ length w.sites)) → KeepsMotes r k k2 old new

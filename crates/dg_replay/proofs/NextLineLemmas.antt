@@ -30,7 +30,7 @@ use Rattle.dg_replay.specs.Untouched.{TextKeepsBytes}
 use Rattle.dg_replay.proofs.BytesLemmas.{keeps_next}
 use Rattle.dg_replay.proofs.ItemLemmas.{some_is, items_next, begin_next, plays_append, played_more, runs_from_none, run_counts}
 use Rattle.dg_world.specs.Mounted.{StandFor}
-use Rattle.dg_replay.proofs.ShownLemmas.{IsFirst, begins_first, shows_from}
+use Rattle.dg_replay.proofs.ShownLemmas.{IsFirst, begins_first, shows_from, unplaced_shown}
 use Rattle.dg_replay.proofs.StandLemmas.{few_in, grounded_next}
 
 -- two results that differ
@@ -107,14 +107,14 @@ pub record Over (o : Option World) (ps : List Played) (items : List Item) (v : O
   pub shown : GoesOnSeen before after o ps o (ps ++ now)
 
 over : {G H : Saw} (o w : Option World) (ps : List Played) (items : List Item) (v : Option World) (t : List ℕ) → IfSome o IsFirst → RunsTo o ps w → RunsFrom w items v (line_told t G H) → Over o ps items v t G H
-over {H = H} o None ps items v t first run (none, is, told, stays) =
+over {G = G} {H = H} o None ps items v t first run (none, is, told, stays) =
     record {
       now = [];
       are = sym none;
       run = subst (λ (x : Option World). RunsTo o (ps ++ []) x) (sym is) (subst (λ (xs : List Played). RunsTo o xs None) (sym (append-nil ps)) run);
       reported = told;
       few = subst (λ (x : Option World). IfSome x (λ u. u.events ≤ most_events)) (sym is) tt;
-      shown = λ f. subst (λ (xs : List Played). H.events (stores_in o) (events_played xs)) (sym (append-nil ps)) (stays (stores_in o) (events_played ps) f);
+      shown = λ f. subst (λ (xs : List Played). H.events (stores_in o) (events_played xs)) (sym (append-nil ps)) (unplaced_shown G H o ps run stays f);
     }
 over None (Some w) ps items v t first run from = absurd (let e : Some w ≡ None = run.1 in cc)
 over {G = G} {H = H} (Some w0) (Some w) ps items v t begins (u, is, plays) (z, at, runs, shown) =

@@ -1,5 +1,5 @@
 -- The parts of a round, one after another.
-use Rattle.std.proofs.Common.{◌≡◌, ℕ, zero, suc, List, [], ◌∷◌, ◌++◌, replicate, refl, ap, sym, ◌∙◌, append-nil, append_assoc}
+use Rattle.std.proofs.Common.{◌≡◌, ℕ, zero, suc, List, [], ◌∷◌, ◌++◌, replicate, refl, ap, ◌∙◌, append-nil, append_assoc}
 use Rattle.dg_base.specs.declared.events.Event.{Event}
 use Rattle.dg_object.specs.Sizes.{packets}
 use Rattle.dg_rounds.specs.Rounds.{drain_ticks, advert_ticks, times, paced, passed, round}

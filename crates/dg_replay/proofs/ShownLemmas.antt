@@ -1,9 +1,12 @@
 -- What a watcher is shown, one part after the other.
 use Rattle.std.proofs.Common.{◌≡◌, ℕ, ◌+◌, Bool, true, false, List, [], ◌∷◌, ◌++◌, length, map, cond, refl, append-nil, append_assoc, length-append, ap, sym, ◌∙◌, subst, arith}
-use Rattle.std.specs.Prelude.{Option, Some, None, option_map, replicate, slice_set, IfSome}
+use Rattle.std.specs.Prelude.{Option, Some, None, option_map, replicate, slice_get, slice_set, IfSome}
 use Rattle.std.specs.List.{AllByRecursion}
 use Rattle.std.proofs.lemmas.List.{length-map}
+use Rattle.std.proofs.lemmas.Option.{same_Some}
 use Rattle.std.proofs.lemmas.List.Elements.{filter-append}
+use Rattle.dg_nor.specs.Device.{Device, MadeMore}
+use Rattle.dg_nor.proofs.DeviceLemmas.{MadeMore-none}
 use Rattle.dg_object.specs.Object.{Row}
 use Rattle.dg_volume.specs.Store.{Store, fresh, golden_row}
 use Rattle.dg_script.specs.Items.{Item, Declares, Applies}
@@ -12,11 +15,12 @@ use Rattle.dg_script.specs.declared.line.Line.{Line}
 use Rattle.dg_script.specs.declared.line.Line.TheVariants.{Nothing, Motes, Golden, Boards, Link, Narrow, Image, Cut, Happens as EventLine, Round, Sweeps}
 use Rattle.dg_rules.specs.Runs.{Played, Plays}
 use Rattle.dg_rules.specs.World.{World, Site, first_world, off_site}
+use Rattle.dg_world.specs.Applied.{OneBoard, SameBoards}
 use Rattle.dg_replay.specs.Items.{StartState, Beginning, begin_by, begin_behind, beginning_of, is_event, events_among}
 use Rattle.dg_replay.specs.inner.Words.{no_beginning, with_link, with_narrow}
 use Rattle.dg_replay.specs.Replayed.{RunsTo, item_played}
 use Rattle.dg_replay.specs.Playing.{IsDeclaration}
-use Rattle.dg_replay.specs.Shown.{Saw, events_played, stores_in, LeadTo, StaysSeen, Shows}
+use Rattle.dg_replay.specs.Shown.{Saw, events_played, stores_in, LeadTo, StaysSeen, StaysUnshown, Shows, HaveRested}
 use Rattle.dg_replay.proofs.ItemLemmas.{some_is, events_among-append, plays_counts, plays_append, runs_from_none}
 
 -- ---- the events among what was played
@@ -157,7 +161,58 @@ shows_nothing F G o ps r on f =
     let e = runs_from_none o ps r in
     on (subst (λ (es : List Played). F.events [] es) (ap events_played e.1) (subst (λ (x : Option World). F.events (stores_in x) (events_played ps)) e.0 f))
 
+-- before the boards are used nothing was played
+pub unplaced_shown : (F G : Saw) (o : Option World) (ps : List Played) → RunsTo o ps None → StaysUnshown F G → F.events (stores_in o) (events_played ps) → G.events (stores_in o) (events_played ps)
+unplaced_shown F G o ps r shown f =
+    let e = runs_from_none o ps r in
+    subst (λ (x : Option World). G.events (stores_in x) (events_played ps)) (sym e.0) (subst (λ (es : List Played). G.events [] es) (sym (ap events_played e.1)) (shows_nothing F G o ps r shown f))
+
 -- a run continues
 pub shows_from : (F G : Saw) (o : Option World) (ps qs : List Played) (w : World) → IfSome o IsFirst → RunsTo o ps (Some w) → Shows F G w qs → F.events (stores_in o) (events_played ps) → G.events (stores_in o) (events_played (ps ++ qs))
 shows_from F G o ps qs w first run shown f =
     subst (λ (es : List Played). G.events (stores_in o) es) (sym (events_played-append ps qs)) (shown (stores_in o) (events_played ps) (lead_from o ps w first run) f)
+
+-- ---- boards on which nothing is made
+
+-- what was seen with the same boards
+pub stays_as : (S : List Device → Saw) (old new : List Device) → new ≡ old → StaysSeen (S old) (S new)
+stays_as S old new same = λ stores events f. subst (λ (ds : List Device). (S ds).events stores events) (sym same) f
+
+rested_one : (a b : Device) → ◌≡◌ {A = Option Device} (Some b) (Some a) → b.stopped ≡ false → (a.stopped ≡ false) × MadeMore 0 a.made b.made
+rested_one a b is awake =
+    let e : b ≡ a = same_Some b a is in
+    (subst (λ (d : Device). d.stopped ≡ false) e awake, subst (λ (d : Device). MadeMore 0 a.made d.made) (sym e) (MadeMore-none a.made))
+
+pub rested_same : (motes : ℕ) (old new : List Device) → new ≡ old → HaveRested motes old new
+rested_same motes old new same = record {
+  count = ap (λ (ds : List Device). length ds) same;
+  rests = λ m a b within was is awake. rested_one a b (sym is ∙ ap (λ (ds : List Device). slice_get ds m) same ∙ was) awake;
+}
+
+-- before the boards are used
+pub rested_unplaced : (old new : List Device) → length new ≡ length old → HaveRested 0 old new
+rested_unplaced old new count = record { count = count; rests = λ m a b within was is awake. absurd (omega (arith, within)) }
+
+-- boards that were only read
+pub rested_read : (motes : ℕ) (old new : List Device) → SameBoards old new → HaveRested motes old new
+rested_read motes old new s = record {
+  count = s.count;
+  rests = λ m a b within was is awake. (was_awake a.stopped b.stopped (s.endures m a b was is).stays awake, s.none_made m a b was is awake);
+}
+  where
+    was_awake : (x y : Bool) → (x ≡ true → y ≡ true) → y ≡ false → x ≡ false
+    was_awake false y stays awake = refl
+    was_awake true y stays awake = absurd (let e : true ≡ false = sym (stays refl) ∙ awake in cc)
+
+-- a board stopped, and no other was used
+pub rested_stopped : (motes board : ℕ) (old new : List Device) (after : Device) → OneBoard board old new → slice_get new board ≡ Some after → after.stopped ≡ true → HaveRested motes old new
+rested_stopped motes board old new after one there stopped = record {
+  count = one.count;
+  rests = λ m a b within was is awake. rested_one a b (sym is ∙ one.others m (λ e. not_it m b e is awake) ∙ was) awake;
+}
+  where
+    not_it : (m : ℕ) (b : Device) → m ≡ board → slice_get new m ≡ Some b → b.stopped ≡ false → ⊥
+    not_it m b e is awake =
+        let same : after ≡ b = same_Some after b (sym there ∙ ap (λ (k : ℕ). slice_get new k) (sym e) ∙ is) in
+        let both : true ≡ false = sym stopped ∙ ap (λ (d : Device). d.stopped) same ∙ awake in
+        cc

@@ -19,7 +19,6 @@ use Rattle.dg_script.specs.declared.line.Line.TheVariants.{Nothing, Motes, Golde
 use Rattle.dg_rules.specs.Sizes.{most_motes}
 use Rattle.dg_rules.specs.World.{World, first_world, off_site, no_site}
 use Rattle.dg_rules.specs.Begins.{store_of}
-use Rattle.dg_rules.specs.Runs.{Played}
 use Rattle.dg_world.specs.Worlds.{IsWorld}
 use Rattle.dg_world.specs.Applied.{SameBoards}
 use Rattle.dg_world.specs.declared.mount.MountStopped.{MountStopped}
@@ -28,7 +27,6 @@ use Rattle.dg_world.specs.Mounted.{StandFor, MountedTo, MountStops, NoVolumeAt}
 use Rattle.dg_world.specs.Counts.{AreSteady, AreAwake}
 use Rattle.dg_world.specs.Formatted.{FirstBoards, FormatStops}
 use Rattle.dg_world.specs.declared.format.FormatStopped.{FormatStopped}
-use Rattle.dg_replay.specs.Replayed.{RunsTo}
 use Rattle.dg_replay.specs.Items.{motes_in, beginning_of}
 use Rattle.dg_replay.specs.inner.Words.{golden_world, with_link, with_narrow}
 use Rattle.dg_world.specs.Boards.{BoardsEndure}
@@ -36,14 +34,13 @@ use Rattle.dg_replay.specs.Boards.{StoppedIn}
 use Rattle.dg_replay.specs.Playing.{Counted, InWorld, Stood, PlayedLine, LacksBoards, PlayedAs, mount_stop}
 use Rattle.dg_replay.specs.declared.player.Player.{Player}
 use Rattle.dg_replay.specs.declared.stop.Stop.{Stop}
-use Rattle.dg_replay.specs.Shown.{Saw, IsPlaced, StaysSeen, stores_in, events_played}
+use Rattle.dg_replay.specs.Shown.{IsPlaced, StaysSeen, StaysUnshown}
 use Rattle.dg_replay.specs.Stages.{based_on, done_so_far, Told, boards_told}
 use Rattle.dg_replay.specs.declared.stop.Stop.TheVariants.{Memory, BadInput, WriteFault, FlashFault, TooMany, NoBoard, NoImage, NotAVolume}
 use Rattle.dg_world.proofs.EndureLemmas.{there, stay_awake}
 use Rattle.dg_replay.proofs.PlayLemmas.{false_not, no_world, in_world_as, seated_as}
-use Rattle.dg_replay.proofs.ItemLemmas.{runs_from_none}
-use Rattle.dg_replay.proofs.ShownLemmas.{stays_same, shows_nothing}
-use Rattle.dg_replay.proofs.StandLemmas.{joined_next, stood_next, grounded_next, grounded_motes, silent_runs, golden_runs, boards_runs, link_runs, narrow_runs, none_begun}
+use Rattle.dg_replay.proofs.ShownLemmas.{stays_same, unplaced_shown}
+use Rattle.dg_replay.proofs.StandLemmas.{joined_next, stood_next, grounded_next, grounded_motes, silent_runs, golden_runs, boards_runs, link_runs, narrow_runs, none_begun, unplaced_begun}
 
 -- memory ran out before anything of a line was done
 pub memory_line : (table : List Row) (p q : Player) (done : List Line) (w : Option World) (line : Line) (report_before told : Told) (initial now : List Device) → StaysSeen report_before.saw told.saw → Stood p done w initial now → PlayedAs (based_on table initial) (Err Memory) q (done_so_far done w) line (boards_told now report_before) (boards_told now told)
@@ -84,12 +81,6 @@ no_motes : (p : Player) (w : Option World) (now : List Device) → p.place.motes
 no_motes p None now none k = k
 no_motes p (Some w) now none k = absurd (omega (arith, none, k.3))
 
--- before the boards are used nothing was played
-motes_shown : (F G : Saw) (o : Option World) (played : List Played) → RunsTo o played None → (F.events [] [] → G.events [] []) → F.events (stores_in o) (events_played played) → G.events (stores_in o) (events_played played)
-motes_shown F G o played r shown f =
-    let e = runs_from_none o played r in
-    subst (λ (x : Option World). G.events (stores_in x) (events_played played)) (sym e.0) (subst (λ (es : List Played). G.events [] es) (sym (ap events_played e.1)) (shows_nothing F G o played r shown f))
-
 pub motes_played : {table : List Row} (p q : Player) (done : List Line) (w : Option World) (motes : ℕ) (before told : Told) (initial now : List Device) → StandsAt p.place (Motes motes) → q.place ≡ place_after p.place (Motes motes) → Counted motes (length now) → told.text ≡ before.text → (before.saw.events [] [] → told.saw.events [] []) → Stood p done w initial now
     → PlayedLine (based_on table initial) q (done_so_far done w) (Motes motes) before (boards_told now told)
 motes_played {table} p q done w motes before told initial now stands place counted same shown s =
@@ -107,7 +98,7 @@ motes_played {table} p q done w motes before told initial now stands place count
           text = [];
           report_now = same ∙ sym (append-nil before.text);
           runs = silent_runs done (Motes motes) None refl (λ g. refl) (λ g played r kept. grounded_motes g done motes played r)
-              (λ g played r f. motes_shown before.saw told.saw (beginning_of g done).world played r shown f);
+              (λ g played r f. unplaced_shown before.saw told.saw (beginning_of g done).world played r shown f);
           stood = stood_next p q done (Motes motes) None None initial now now (joined_next p.place (Motes motes) stands (counted.0, counted.1) s.links) s place (λ some. subst (λ (n : ℕ). Counted n (length now)) (sym many) counted) s.cut_fits
               (ready ∙ unready) s.boards;
           boards_enough = ap (λ (b : Bool). if b then Some motes else None) (not_below (length initial) motes (subst (λ (ds : List Device). motes ≤ length ds) s.boards counted.2));
@@ -224,7 +215,7 @@ golden_played p q done None name used content motes before told initial old new 
 
 -- formatting stopped
 pub golden_stopped : (table : List Row) (p q : Player) (done : List Line) (w : Option World) (name : List ℕ) (used : ℕ) (content : List ℕ) (motes : ℕ) (e : FormatStopped) (before told : Told) (initial old new : List Device) → p.place.ready ≡ false → motes ≡ p.place.motes
-    → FirstBoards motes old new → FormatStops e.board motes (fresh name content used) old new → told.text ≡ before.text → StaysSeen before.saw told.saw → Stood p done w initial old → PlayedAs (based_on table initial) (Err FlashFault) q (done_so_far done w) (Golden name used content) (boards_told old before) (boards_told new told)
+    → FirstBoards motes old new → FormatStops e.board motes (fresh name content used) old new → told.text ≡ before.text → StaysUnshown before.saw told.saw → Stood p done w initial old → PlayedAs (based_on table initial) (Err FlashFault) q (done_so_far done w) (Golden name used content) (boards_told old before) (boards_told new told)
 golden_stopped table p q done (Some w) name used content motes e before told initial old new unready count others stops same stays s = false_not p.place.ready s.world.2 unready
 golden_stopped table p q done None name used content motes e before told initial old new unready count others stops same stays s =
     let first : old ≡ initial = s.boards in
@@ -247,7 +238,7 @@ golden_stopped table p q done None name used content motes e before told initial
         others = λ m past. stops.behind m past ∙ ap (λ (ds : List Device). slice_get ds m) first;
       };
     } in
-    (tt, none_begun p done (Golden name used content) None old s.world stays (stop, same ∙ sym (append-nil before.text)))
+    (tt, unplaced_begun done (Golden name used content) stays (stop, same ∙ sym (append-nil before.text)))
 
 -- ---- boards as they are
 

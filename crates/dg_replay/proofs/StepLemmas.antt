@@ -22,9 +22,9 @@ use Rattle.dg_replay.proofs.ItemStepLemmas.{played_none, played_join, stopped_la
 
 -- ---- what a loop over items keeps
 
--- what was reported so far, and what a watcher saw, by the boards with which the replay began
-abbrev pub told_by : (text : List ℕ) (saw : List Device → Saw) → List Device → Told
-told_by text saw initial = told_so_far text (saw initial)
+-- what was reported so far, and what a watcher saw by then with these boards, by the boards with which the replay began
+abbrev pub told_by : (text : List ℕ) (now : List Device) (saw : (initial now : List Device) → Saw) → List Device → Told
+told_by text now saw initial = told_so_far text (saw initial now)
 
 -- These items were played, from a kept world and boards to these.
 pub record PlayedSoFar (items : List Item) (first kept : KeptWorld) (old now : List Device) (report_before told : List Device → Told) : Type 0 where

@@ -32,7 +32,7 @@ use Rattle.dg_replay.specs.Boards.{LacksImage}
 use Rattle.dg_script.specs.Items.{Item, Declares, Applies, item_by, items_of, place_behind}
 use Rattle.dg_replay.specs.Items.{StartState, UsesBoards, beginning_of, motes_in, lacking_by}
 use Rattle.dg_replay.specs.Replayed.{IsGround, item_played, played_text, RunsTo}
-use Rattle.dg_replay.specs.Shown.{Saw, Shows, EndShown, StaysSeen, GoesOnSeen}
+use Rattle.dg_replay.specs.Shown.{Saw, Shows, EndShown, StaysSeen, StaysUnshown, GoesOnSeen}
 use Rattle.dg_replay.specs.Stages.{Baseline, based_on, DoneSoFar, Told, LineTold, line_told, BoardsTold}
 use Rattle.dg_replay.specs.declared.player.Player.{Player}
 use Rattle.dg_replay.specs.declared.stop.Stop.{Stop}
@@ -216,7 +216,7 @@ pub record PlayedLine (basis : Baseline) (q : Player) (behind : DoneSoFar) (line
 
 -- items run from a world, which a watcher was shown; before there is a world, there are no items
 abbrev pub RunsFrom : Option World → List Item → Option World → LineTold → Type 0
-RunsFrom None items v told = (items ≡ []) × (v ≡ None) × (told.text ≡ []) × StaysSeen told.before told.after
+RunsFrom None items v told = (items ≡ []) × (v ≡ None) × (told.text ≡ []) × StaysUnshown told.before told.after
 RunsFrom (Some w) items v told =
     (u : World) × (v ≡ Some u) × (x : ItemsRun w items u told.text) × Shows told.before told.after w x.played
 

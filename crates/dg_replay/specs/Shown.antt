@@ -1,8 +1,8 @@
 -- What a watcher of a replay is shown (docs/PROMISES.md, "The report and what it tells").
-use Rattle.std.specs.Prelude.{◌≡◌, ℕ, ◌<◌, ◌≤◌, Bool, List, [], ◌∷◌, ◌++◌, length, map, replicate, slice_get, Option}
+use Rattle.std.specs.Prelude.{◌≡◌, ℕ, ◌<◌, ◌≤◌, Bool, false, List, [], ◌∷◌, ◌++◌, length, map, replicate, slice_get, Option}
 use Rattle.std.specs.Prelude.{Some, None, Ok}
 use Rattle.std.specs.List.{filter}
-use Rattle.dg_nor.specs.Device.{Device}
+use Rattle.dg_nor.specs.Device.{Device, MadeMore}
 use Rattle.dg_base.specs.declared.events.Cut.{Cut as PowerCut}
 use Rattle.dg_base.specs.declared.events.Event.{Event}
 use Rattle.dg_object.specs.Object.{Row}
@@ -11,13 +11,15 @@ use Rattle.dg_volume.specs.Stands.{Stands}
 use Rattle.dg_volume.specs.Store.{Store, fresh}
 use Rattle.dg_script.specs.Items.{Item, Declares, Applies}
 use Rattle.dg_rules.specs.Begins.{store_of}
+use Rattle.dg_rules.specs.Events.{mote_of}
+use Rattle.dg_rules.specs.Made.{made_in}
 use Rattle.dg_rules.specs.Runs.{Played, Plays, ItemStep}
 use Rattle.dg_rules.specs.Sizes.{most_motes, most_events}
 use Rattle.dg_rules.specs.Steps.{EndsRun}
 use Rattle.dg_rules.specs.World.{World, first_world, store_at}
-use Rattle.dg_world.specs.Applied.{SameBoards}
+use Rattle.dg_world.specs.Applied.{SameBoards, OneBoard, MadeOn}
 use Rattle.dg_world.specs.Applying.{ApplyDone, IsOf, step_of}
-use Rattle.dg_world.specs.Counts.{AreAwake}
+use Rattle.dg_world.specs.Counts.{AreAwake, AreSteady}
 use Rattle.dg_world.specs.Deployments.{Deployment}
 use Rattle.dg_world.specs.Mounted.{StandFor}
 use Rattle.dg_replay.specs.Items.{is_event}
@@ -57,6 +59,12 @@ pub record IsPlaced (motes : ℕ) (used : Option ℕ) (initial boards : List Dev
   pub shaped : used ≡ None → (m : ℕ) → m < motes → IsShaped (store_of stores m)
   pub same : used ≡ None → SameBoards initial boards
 
+-- Nothing was made on the boards of this many motes since, except on one that is stopped.
+pub record HaveRested (motes : ℕ) (old new : List Device) : Type 0 where
+  pub count : length new ≡ length old
+  pub rests : (m : ℕ) (a b : Device) → m < motes → slice_get old m ≡ Some a → slice_get new m ≡ Some b → b.stopped ≡ false
+      → (a.stopped ≡ false) × MadeMore 0 a.made b.made
+
 -- ---- events
 
 -- These are the events of a run that leads from these stores to a world.
@@ -85,7 +93,8 @@ pub record IsApplied (p : Played) (event : Event) (reported : Bool) (after : Dep
   -- everything else that is promised of applying it
   pub done : ApplyDone (Ok tt) (step_of event cut) reported before after
 
--- An event found no image to start. The boards stand for the world in which the run ends, and none is stopped.
+-- An event found no image to start. The boards stand for the world in which the run ends, and none is stopped. No board but that
+-- of the event's mote was used, and the operations of the event's trail were made on it.
 pub record IsEnding (w : World) (event : Event) (boards : List Device) : Type 0 where
   pub few : w.events < most_events
   pub cut : Option PowerCut
@@ -93,6 +102,11 @@ pub record IsEnding (w : World) (event : Event) (boards : List Device) : Type 0 
   pub ends : EndsRun w (step_of event cut) after
   pub stand : (m : ℕ) (d : Device) → m < length after.sites → slice_get boards m ≡ Some d → Stands d.image (store_at after m)
   pub awake : AreAwake (length after.sites) boards
+  -- the boards before it
+  pub before : List Device
+  pub one : OneBoard (mote_of event) before boards
+  pub calm : AreSteady before boards
+  pub made : MadeOn (mote_of event) (made_in w (step_of event cut)) before boards
 
 -- ---- runs that continue
 
@@ -100,6 +114,10 @@ pub record IsEnding (w : World) (event : Event) (boards : List Device) : Type 0 
 abbrev pub StaysSeen : (before after : Saw) → Type 0
 StaysSeen before after = (stores : List Store) (events : List Played) → before.events stores events
     → after.events stores events
+
+-- a watcher that was shown nothing since the motes' chips began was shown nothing still
+abbrev pub StaysUnshown : (before after : Saw) → Type 0
+StaysUnshown before after = before.events [] [] → after.events [] []
 
 -- a watcher was shown what was played from this world on
 abbrev pub Shows : (before after : Saw) → World → List Played → Type 0

@@ -9,7 +9,7 @@ ghost use Rattle.dg_replay.specs.Ending.{ending_from};
 ghost use Rattle.dg_replay.specs.Near.{behind_lines};
 ghost use Rattle.dg_replay.specs.Playing.{Ready};
 ghost use Rattle.dg_replay.specs.Replaying.{StopEnds, Reached, ScriptReplayed, seen_of};
-ghost use Rattle.dg_replay.specs.Shown.{unseen};
+ghost use Rattle.dg_replay.specs.Shown.{unseen, HaveRested};
 ghost use Rattle.dg_replay.specs.Stages.{span, failures};
 ghost use Rattle.dg_replay.specs.inner.Words.{bytes_taken};
 
@@ -56,6 +56,7 @@ pub fn end_script<K: Sink, N: Nor>(
         (span initial (map N.device boards.new.items) before (K.written out.new) unseen
         (seen_of (beginning_of r.ground r.done).world r.played))
         (failures ⊥ (Rose faults (K.faults out.new))) }
+    ensures rested { (motes : ℕ) → HaveRested motes (map N.device boards.old.items) (map N.device boards.new.items) }
     ensures counts { K.faults out.old ≤ K.faults out.new }
     ensures unfailed { result ≢ Status.WriteFault → K.faults out.new ≡ K.faults out.old }
 {

@@ -54,19 +54,25 @@ fn play_next<S: Source, K: Sink, N: Nor, W: Watcher<N>>(
         × NextPlayed result (bytes_taken (reader.old.ahead ++ more) (AtEnd (S.left input.new))) reader.old reader.new
         (Rose (S.faults input.old) (S.faults input.new))
         (AllAsBefore
-        (replay_state player.old (map N.device boards.old.items) (K.written out.old) (W.saw watcher.old initial))
-        (replay_state player.new (map N.device boards.new.items) (K.written out.new) (W.saw watcher.new initial)))
+        (replay_state player.old (map N.device boards.old.items) (K.written out.old)
+        (W.saw watcher.old initial (map N.device boards.old.items)))
+        (replay_state player.new (map N.device boards.new.items) (K.written out.new)
+        (W.saw watcher.new initial (map N.device boards.new.items))))
         (λ r text. TextKeepsBytes player.old.place text (map N.device boards.old.items) (map N.device boards.new.items)
         × ((table : List Row) (behind : DoneSoFar)
         → Stood player.old behind.lines behind.world initial (map N.device boards.old.items)
         → TextAnswer (based_on table initial) r (line_read text (reader.old.number + 1)) behind
-        (replay_state player.old (map N.device boards.old.items) (K.written out.old) (W.saw watcher.old initial))
-        (replay_state player.new (map N.device boards.new.items) (K.written out.new) (W.saw watcher.new initial))
+        (replay_state player.old (map N.device boards.old.items) (K.written out.old)
+        (W.saw watcher.old initial (map N.device boards.old.items)))
+        (replay_state player.new (map N.device boards.new.items) (K.written out.new)
+        (W.saw watcher.new initial (map N.device boards.new.items)))
         (Rose (K.faults out.old) (K.faults out.new)))) }
     ensures reads { S.faults input.old ≤ S.faults input.new }
     ensures unread { result ≢ Err Halt.ReadFault → S.faults input.new ≡ S.faults input.old }
     ensures counts { K.faults out.old ≤ K.faults out.new }
     ensures unfailed { result ≢ Err (Halt.Stopped Stop.WriteFault) → K.faults out.new ≡ K.faults out.old }
+    ensures running { result ≢ Err (Halt.Stopped Stop.NoImage) → result ≢ Err (Halt.Stopped Stop.WriteFault)
+        → W.running watcher.old → W.running watcher.new }
 {
     let number = match reader.next(input) {
         Ok(Some(number)) => number,
@@ -106,12 +112,15 @@ pub fn play_lines<S: Source, K: Sink, N: Nor, W: Watcher<N>>(
     ensures answer { (bytes : List ℕ) × Takes (S.left input.old) (S.left input.new) bytes
         × ((table : List Row) → InputAnswer table result (bytes_taken bytes (AtEnd (S.left input.new)))
         (span (map N.device boards.old.items) (map N.device boards.new.items) (K.written out.old) (K.written out.new)
-        (W.saw watcher.old (map N.device boards.old.items)) (W.saw watcher.new (map N.device boards.old.items)))
+        (W.saw watcher.old (map N.device boards.old.items) (map N.device boards.old.items))
+        (W.saw watcher.new (map N.device boards.old.items) (map N.device boards.new.items)))
         (failures (Rose (S.faults input.old) (S.faults input.new)) (Rose (K.faults out.old) (K.faults out.new)))) }
     ensures reads { S.faults input.old ≤ S.faults input.new }
     ensures unread { result ≢ Err Halt.ReadFault → S.faults input.new ≡ S.faults input.old }
     ensures counts { K.faults out.old ≤ K.faults out.new }
     ensures unfailed { result ≢ Err (Halt.Stopped Stop.WriteFault) → K.faults out.new ≡ K.faults out.old }
+    ensures running { result ≢ Err (Halt.Stopped Stop.NoImage) → result ≢ Err (Halt.Stopped Stop.WriteFault)
+        → W.running watcher.old → W.running watcher.new }
 {
     scripts_with_golden();
     let mut player = Player::first(alloc);

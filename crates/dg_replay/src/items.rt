@@ -1,5 +1,5 @@
 //! Plays the items of a line: an image that is declared, and an event.
-ghost use Rattle.std.specs.Prelude.{◌≡◌, ◌∷◌, ◌++◌, [], List, Err, map, length, OnOk, OnErr, option_copied};
+ghost use Rattle.std.specs.Prelude.{◌≡◌, ◌≢◌, ◌∷◌, ◌++◌, [], List, Err, map, length, OnOk, OnErr, option_copied};
 ghost use Rattle.dg_nor.specs.Device.{Device};
 ghost use Rattle.dg_object.specs.Object.{row_of};
 ghost use Rattle.dg_script.specs.Items.{Declares, Applies};
@@ -69,10 +69,11 @@ pub fn play_image<N: Nor, W: Watcher<N>>(
     watcher: &mut W,
 ) -> Result<(), Stop>
     requires fits { IsDeclared (row_of image version name content) }
-    ensures { (boards initial : List Device) (w : RuleWorld) → IsWorld world.old boards w → WorldStands w initial boards
+    ensures played { (boards initial : List Device) (w : RuleWorld) → IsWorld world.old boards w → WorldStands w initial boards
         → ItemsPlayedAs result w (Declares (row_of image version name content) ∷ []) world.new initial
-        (told_so_far line_report.old.text.items (W.saw watcher.old initial))
-        (boards_told boards (told_so_far line_report.new.text.items (W.saw watcher.new initial))) }
+        (told_so_far line_report.old.text.items (W.saw watcher.old initial boards))
+        (boards_told boards (told_so_far line_report.new.text.items (W.saw watcher.new initial boards))) }
+    ensures running { W.running watcher.old → W.running watcher.new }
 {
     line_report.reports.clear();
     match world.declare(image, version, name, content) {
@@ -110,11 +111,12 @@ pub fn play_event<N: Nor, W: Watcher<N>>(
     ensures played { (w : RuleWorld) (initial : List Device) → IsWorld world.old (map N.device boards.old.items) w
         → WorldStands w initial (map N.device boards.old.items)
         → ItemsPlayedAs result w (Applies (step_of event.now (option_copied cut.entry)) reported ∷ []) world.new initial
-        (told_so_far line_report.old.text.items (W.saw watcher.old initial))
+        (told_so_far line_report.old.text.items (W.saw watcher.old initial (map N.device boards.old.items)))
         (boards_told (map N.device boards.new.items)
-        (told_so_far line_report.new.text.items (W.saw watcher.new initial))) }
+        (told_so_far line_report.new.text.items (W.saw watcher.new initial (map N.device boards.new.items)))) }
     ensures kept { KeepBytes (Applies (step_of event.now (option_copied cut.entry)) reported ∷ []) (map N.device boards.old.items)
         (map N.device boards.new.items) }
+    ensures running { result ≢ Err Stop.NoImage → W.running watcher.old → W.running watcher.new }
 {
     line_report.reports.clear();
     match world.apply_parts(boards, event, cut, reported, &mut line_report.reports) {

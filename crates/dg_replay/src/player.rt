@@ -1,5 +1,5 @@
 //! Plays the lines of a script over its world.
-ghost use Rattle.std.specs.Prelude.{◌≡◌, ◌<◌, ◌≤◌, ℕ, true, false, List, [], Err, map, length, OnOk, OnErr};
+ghost use Rattle.std.specs.Prelude.{◌≡◌, ◌≢◌, ◌<◌, ◌≤◌, ℕ, true, false, List, [], Err, map, length, OnOk, OnErr};
 ghost use Rattle.dg_nor.specs.Device.{Device};
 ghost use Rattle.dg_volume.specs.Store.{fresh};
 ghost use Rattle.dg_script.specs.Fitting.{IsGoldenImage};
@@ -50,10 +50,11 @@ fn play_motes<N: Nor, W: Watcher<N>>(
     ensures counted { OnOk result (motes ≤ length boards.now.items) }
     ensures missing { (stop : Stop) → result ≡ Err stop → (stop ≡ Stop.NoBoard motes (length boards.now.items))
         × (length boards.now.items < motes) }
-    ensures begun { (initial : List Device) → (W.saw watcher.old initial).events [] []
-        → (W.saw watcher.new initial).events [] [] }
-    ensures unshown { (initial : List Device)
-        → OnErr result (StaysSeen (W.saw watcher.old initial) (W.saw watcher.new initial)) }
+    ensures begun { (initial now : List Device) → (W.saw watcher.old initial now).events [] []
+        → (W.saw watcher.new initial now).events [] [] }
+    ensures unshown { (initial now : List Device)
+        → OnErr result (StaysSeen (W.saw watcher.old initial now) (W.saw watcher.new initial now)) }
+    ensures running { W.running watcher.old → W.running watcher.new }
 {
     let have = boards.len();
     if have < usize::from(motes) {
@@ -116,10 +117,12 @@ fn play_golden<N: Nor, W: Watcher<N>>(
         → Stood player.old behind.lines behind.world basis.boards (map N.device boards.old.items)
         → PlayedAs basis result (gone_on player.new (Line.Golden name.now used content.now)) behind
         (Line.Golden name.now used content.now)
-        (boards_told (map N.device boards.old.items) (told_so_far text (W.saw watcher.old basis.boards)))
+        (boards_told (map N.device boards.old.items)
+        (told_so_far text (W.saw watcher.old basis.boards (map N.device boards.old.items))))
         (boards_told (map N.device boards.new.items)
-        (told_so_far text (W.saw watcher.new basis.boards))) }
+        (told_so_far text (W.saw watcher.new basis.boards (map N.device boards.new.items)))) }
     ensures place { player.new.place ≡ player.old.place }
+    ensures running { W.running watcher.old → W.running watcher.new }
 {
     let motes = player.place.motes;
     let world = match World::new(alloc, motes) {
@@ -175,11 +178,13 @@ fn play_boards<N: Nor, W: Watcher<N>>(
     ensures played { (basis : Baseline) (behind : DoneSoFar) (text : List ℕ)
         → Stood player.old behind.lines behind.world basis.boards (map N.device boards.old.items)
         → PlayedAs basis result (gone_on player.new Line.Boards) behind Line.Boards
-        (boards_told (map N.device boards.old.items) (told_so_far text (W.saw watcher.old basis.boards)))
+        (boards_told (map N.device boards.old.items)
+        (told_so_far text (W.saw watcher.old basis.boards (map N.device boards.old.items))))
         (boards_told (map N.device boards.new.items)
-        (told_so_far text (W.saw watcher.new basis.boards))) }
+        (told_so_far text (W.saw watcher.new basis.boards (map N.device boards.new.items)))) }
     ensures place { player.new.place ≡ player.old.place }
     ensures kept { KeepBytes [] (map N.device boards.old.items) (map N.device boards.new.items) }
+    ensures running { W.running watcher.old → W.running watcher.new }
 {
     let motes = player.place.motes;
     let world = match World::new(alloc, motes) {
@@ -217,14 +222,17 @@ pub fn play_line<N: Nor, W: Watcher<N>>(
     ensures played { (basis : Baseline) (behind : DoneSoFar)
         → Stood player.old behind.lines behind.world basis.boards (map N.device boards.old.items)
         → PlayedAs basis result (gone_on player.new line.new) behind line.old
-        (boards_told (map N.device boards.old.items) (told_so_far line_report.old.text.items (W.saw watcher.old basis.boards)))
+        (boards_told (map N.device boards.old.items)
+        (told_so_far line_report.old.text.items (W.saw watcher.old basis.boards (map N.device boards.old.items))))
         (boards_told (map N.device boards.new.items)
-        (told_so_far line_report.new.text.items (W.saw watcher.new basis.boards))) }
+        (told_so_far line_report.new.text.items (W.saw watcher.new basis.boards (map N.device boards.new.items)))) }
     ensures behind { place_after player.new.place line.new ≡ place_after player.old.place line.old }
     ensures linked { (a b : ℕ) → line.new ≡ Line.Link a b → boards.new.items ≡ boards.old.items }
     ensures unshown { (a b : ℕ) (initial : List Device) → line.new ≡ Line.Link a b
-        → StaysSeen (W.saw watcher.old initial) (W.saw watcher.new initial) }
+        → StaysSeen (W.saw watcher.old initial (map N.device boards.old.items))
+        (W.saw watcher.new initial (map N.device boards.new.items)) }
     ensures kept { LineKeepsBytes player.old.place line.old (map N.device boards.old.items) (map N.device boards.new.items) }
+    ensures running { result ≢ Err Stop.NoImage → W.running watcher.old → W.running watcher.new }
 {
     match line {
         Line::Nothing | Line::Cut(_) => Ok(()),

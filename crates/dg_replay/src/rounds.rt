@@ -1,5 +1,5 @@
 //! Plays the events of rounds and sweeps.
-ghost use Rattle.std.specs.Prelude.{◌<◌, ◌∷◌, ◌++◌, [], List, map, length};
+ghost use Rattle.std.specs.Prelude.{◌<◌, ◌≢◌, ◌∷◌, ◌++◌, [], List, Err, map, length};
 ghost use Rattle.std.specs.List.{AllByRecursion};
 ghost use Rattle.dg_nor.specs.Device.{Device};
 ghost use Rattle.dg_object.specs.Sizes.{packets};
@@ -43,11 +43,12 @@ pub fn play_round<N: Nor, W: Watcher<N>>(
     ensures played { (w : RuleWorld) (initial : List Device) → IsWorld world.old (map N.device boards.old.items) w
         → WorldStands w initial (map N.device boards.old.items)
         → ItemsPlayedAs result w (unreported (round a b)) world.new initial
-        (told_so_far line_report.old.text.items (W.saw watcher.old initial))
+        (told_so_far line_report.old.text.items (W.saw watcher.old initial (map N.device boards.old.items)))
         (boards_told (map N.device boards.new.items)
-        (told_so_far line_report.new.text.items (W.saw watcher.new initial))) }
+        (told_so_far line_report.new.text.items (W.saw watcher.new initial (map N.device boards.new.items)))) }
     ensures kept { KeepBytes (unreported (round a b)) (map N.device boards.old.items)
         (map N.device boards.new.items) }
+    ensures running { result ≢ Err Stop.NoImage → W.running watcher.old → W.running watcher.new }
 {
     play_ticks(world, a, DRAIN_TICKS, boards, line_report, watcher)?;
     play_ticks(world, b, DRAIN_TICKS, boards, line_report, watcher)?;
@@ -72,11 +73,12 @@ fn play_ticks<N: Nor, W: Watcher<N>>(
     ensures played { (w : RuleWorld) (initial : List Device) → IsWorld world.old (map N.device boards.old.items) w
         → WorldStands w initial (map N.device boards.old.items)
         → ItemsPlayedAs result w (unreported (times count (paced mote ∷ []))) world.new initial
-        (told_so_far line_report.old.text.items (W.saw watcher.old initial))
+        (told_so_far line_report.old.text.items (W.saw watcher.old initial (map N.device boards.old.items)))
         (boards_told (map N.device boards.new.items)
-        (told_so_far line_report.new.text.items (W.saw watcher.new initial))) }
+        (told_so_far line_report.new.text.items (W.saw watcher.new initial (map N.device boards.new.items)))) }
     ensures kept { KeepBytes (unreported (times count (paced mote ∷ []))) (map N.device boards.old.items)
         (map N.device boards.new.items) }
+    ensures running { result ≢ Err Stop.NoImage → W.running watcher.old → W.running watcher.new }
 {
     for _ in 0..count {
         play_tick(world, mote, boards, line_report, watcher)?;
@@ -98,11 +100,12 @@ fn play_tick<N: Nor, W: Watcher<N>>(
     ensures played { (w : RuleWorld) (initial : List Device) → IsWorld world.old (map N.device boards.old.items) w
         → WorldStands w initial (map N.device boards.old.items)
         → ItemsPlayedAs result w (unreported (paced mote ∷ [])) world.new initial
-        (told_so_far line_report.old.text.items (W.saw watcher.old initial))
+        (told_so_far line_report.old.text.items (W.saw watcher.old initial (map N.device boards.old.items)))
         (boards_told (map N.device boards.new.items)
-        (told_so_far line_report.new.text.items (W.saw watcher.new initial))) }
+        (told_so_far line_report.new.text.items (W.saw watcher.new initial (map N.device boards.new.items)))) }
     ensures kept { KeepBytes (unreported (paced mote ∷ [])) (map N.device boards.old.items)
         (map N.device boards.new.items) }
+    ensures running { result ≢ Err Stop.NoImage → W.running watcher.old → W.running watcher.new }
 {
     let tick = Event::Tick {
         mote,
@@ -127,11 +130,12 @@ fn play_heard<N: Nor, W: Watcher<N>>(
     ensures played { (w : RuleWorld) (initial : List Device) → IsWorld world.old (map N.device boards.old.items) w
         → WorldStands w initial (map N.device boards.old.items)
         → ItemsPlayedAs result w (unreported (passed from to ∷ [])) world.new initial
-        (told_so_far line_report.old.text.items (W.saw watcher.old initial))
+        (told_so_far line_report.old.text.items (W.saw watcher.old initial (map N.device boards.old.items)))
         (boards_told (map N.device boards.new.items)
-        (told_so_far line_report.new.text.items (W.saw watcher.new initial))) }
+        (told_so_far line_report.new.text.items (W.saw watcher.new initial (map N.device boards.new.items)))) }
     ensures kept { KeepBytes (unreported (passed from to ∷ [])) (map N.device boards.old.items)
         (map N.device boards.new.items) }
+    ensures running { result ≢ Err Stop.NoImage → W.running watcher.old → W.running watcher.new }
 {
     let last = Event::Last {
         from,
@@ -157,11 +161,12 @@ fn play_request<N: Nor, W: Watcher<N>>(
     ensures played { (w : RuleWorld) (initial : List Device) → IsWorld world.old (map N.device boards.old.items) w
         → WorldStands w initial (map N.device boards.old.items)
         → ItemsPlayedAs result w (unreported (passed a b ∷ paced b ∷ passed b a ∷ [])) world.new initial
-        (told_so_far line_report.old.text.items (W.saw watcher.old initial))
+        (told_so_far line_report.old.text.items (W.saw watcher.old initial (map N.device boards.old.items)))
         (boards_told (map N.device boards.new.items)
-        (told_so_far line_report.new.text.items (W.saw watcher.new initial))) }
+        (told_so_far line_report.new.text.items (W.saw watcher.new initial (map N.device boards.new.items)))) }
     ensures kept { KeepBytes (unreported (passed a b ∷ paced b ∷ passed b a ∷ [])) (map N.device boards.old.items)
         (map N.device boards.new.items) }
+    ensures running { result ≢ Err Stop.NoImage → W.running watcher.old → W.running watcher.new }
 {
     play_heard(world, a, b, boards, line_report, watcher)?;
     play_tick(world, b, boards, line_report, watcher)?;
@@ -184,11 +189,12 @@ fn play_packet<N: Nor, W: Watcher<N>>(
     ensures played { (w : RuleWorld) (initial : List Device) → IsWorld world.old (map N.device boards.old.items) w
         → WorldStands w initial (map N.device boards.old.items)
         → ItemsPlayedAs result w (unreported (paced a ∷ passed a b ∷ [])) world.new initial
-        (told_so_far line_report.old.text.items (W.saw watcher.old initial))
+        (told_so_far line_report.old.text.items (W.saw watcher.old initial (map N.device boards.old.items)))
         (boards_told (map N.device boards.new.items)
-        (told_so_far line_report.new.text.items (W.saw watcher.new initial))) }
+        (told_so_far line_report.new.text.items (W.saw watcher.new initial (map N.device boards.new.items)))) }
     ensures kept { KeepBytes (unreported (paced a ∷ passed a b ∷ [])) (map N.device boards.old.items)
         (map N.device boards.new.items) }
+    ensures running { result ≢ Err Stop.NoImage → W.running watcher.old → W.running watcher.new }
 {
     play_tick(world, a, boards, line_report, watcher)?;
     play_heard(world, a, b, boards, line_report, watcher)?;
@@ -210,11 +216,12 @@ fn play_packets<N: Nor, W: Watcher<N>>(
     ensures played { (w : RuleWorld) (initial : List Device) → IsWorld world.old (map N.device boards.old.items) w
         → WorldStands w initial (map N.device boards.old.items)
         → ItemsPlayedAs result w (unreported (times packets (paced a ∷ passed a b ∷ []))) world.new initial
-        (told_so_far line_report.old.text.items (W.saw watcher.old initial))
+        (told_so_far line_report.old.text.items (W.saw watcher.old initial (map N.device boards.old.items)))
         (boards_told (map N.device boards.new.items)
-        (told_so_far line_report.new.text.items (W.saw watcher.new initial))) }
+        (told_so_far line_report.new.text.items (W.saw watcher.new initial (map N.device boards.new.items)))) }
     ensures kept { KeepBytes (unreported (times packets (paced a ∷ passed a b ∷ []))) (map N.device boards.old.items)
         (map N.device boards.new.items) }
+    ensures running { result ≢ Err Stop.NoImage → W.running watcher.old → W.running watcher.new }
 {
     for _ in 0..PACKETS {
         play_packet(world, a, b, boards, line_report, watcher)?;
@@ -236,11 +243,12 @@ fn play_both<N: Nor, W: Watcher<N>>(
     ensures played { (w : RuleWorld) (initial : List Device) → IsWorld world.old (map N.device boards.old.items) w
         → WorldStands w initial (map N.device boards.old.items)
         → ItemsPlayedAs result w (unreported (round a b ++ round b a)) world.new initial
-        (told_so_far line_report.old.text.items (W.saw watcher.old initial))
+        (told_so_far line_report.old.text.items (W.saw watcher.old initial (map N.device boards.old.items)))
         (boards_told (map N.device boards.new.items)
-        (told_so_far line_report.new.text.items (W.saw watcher.new initial))) }
+        (told_so_far line_report.new.text.items (W.saw watcher.new initial (map N.device boards.new.items)))) }
     ensures kept { KeepBytes (unreported (round a b ++ round b a)) (map N.device boards.old.items)
         (map N.device boards.new.items) }
+    ensures running { result ≢ Err Stop.NoImage → W.running watcher.old → W.running watcher.new }
 {
     play_round(world, a, b, boards, line_report, watcher)?;
     play_round(world, b, a, boards, line_report, watcher)?;
@@ -261,11 +269,12 @@ fn play_sweep<N: Nor, W: Watcher<N>>(
     ensures played { (w : RuleWorld) (initial : List Device) → IsWorld world.old (map N.device boards.old.items) w
         → WorldStands w initial (map N.device boards.old.items)
         → ItemsPlayedAs result w (unreported (sweep links.now)) world.new initial
-        (told_so_far line_report.old.text.items (W.saw watcher.old initial))
+        (told_so_far line_report.old.text.items (W.saw watcher.old initial (map N.device boards.old.items)))
         (boards_told (map N.device boards.new.items)
-        (told_so_far line_report.new.text.items (W.saw watcher.new initial))) }
+        (told_so_far line_report.new.text.items (W.saw watcher.new initial (map N.device boards.new.items)))) }
     ensures kept { KeepBytes (unreported (sweep links.now)) (map N.device boards.old.items)
         (map N.device boards.new.items) }
+    ensures running { result ≢ Err Stop.NoImage → W.running watcher.old → W.running watcher.new }
 {
     for link in links {
         play_both(world, link.0, link.1, boards, line_report, watcher)?;
@@ -288,11 +297,12 @@ pub fn play_sweeps<N: Nor, W: Watcher<N>>(
     ensures played { (w : RuleWorld) (initial : List Device) → IsWorld world.old (map N.device boards.old.items) w
         → WorldStands w initial (map N.device boards.old.items)
         → ItemsPlayedAs result w (unreported (times count (sweep links.now))) world.new initial
-        (told_so_far line_report.old.text.items (W.saw watcher.old initial))
+        (told_so_far line_report.old.text.items (W.saw watcher.old initial (map N.device boards.old.items)))
         (boards_told (map N.device boards.new.items)
-        (told_so_far line_report.new.text.items (W.saw watcher.new initial))) }
+        (told_so_far line_report.new.text.items (W.saw watcher.new initial (map N.device boards.new.items)))) }
     ensures kept { KeepBytes (unreported (times count (sweep links.now))) (map N.device boards.old.items)
         (map N.device boards.new.items) }
+    ensures running { result ≢ Err Stop.NoImage → W.running watcher.old → W.running watcher.new }
 {
     for _ in 0..count {
         play_sweep(world, links, boards, line_report, watcher)?;

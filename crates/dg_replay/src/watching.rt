@@ -1,11 +1,11 @@
 //! Who watches a replay.
-ghost use Rattle.std.specs.Prelude.{List, [], ◌∷◌, ◌++◌, map};
+ghost use Rattle.std.specs.Prelude.{List, [], ◌∷◌, ◌++◌, length, map};
 ghost use Rattle.dg_nor.specs.Device.{Device};
 ghost use Rattle.dg_rules.specs.Runs.{Played};
 ghost use Rattle.dg_rules.specs.World.{World as RuleWorld};
 ghost use Rattle.dg_volume.specs.Store.{Store};
 ghost use Rattle.dg_world.specs.Deployments.{deployed};
-ghost use Rattle.dg_replay.specs.Shown.{Saw, IsPlaced, LeadTo, IsApplied, IsEnding};
+ghost use Rattle.dg_replay.specs.Shown.{Saw, HaveRested, IsPlaced, LeadTo, IsApplied, IsEnding};
 
 use dg_nor::Nor;
 use dg_rules::Event;
@@ -15,24 +15,39 @@ use dg_world::World;
 /// Watches a replay: it is shown each event after the boards, and changes nothing of the replay. A method that does nothing
 /// costs nothing.
 pub trait Watcher<N: Nor> {
-    // What the watcher saw of a replay that began with these boards. It was shown exactly these events, since the motes' chips
-    // began with these stores (`events`), and that this event found no image to start (`ended`).
-    ghost saw: { Self → (initial : List Device) → Saw };
+    // What the watcher saw of a replay that began with the boards `initial`, and has left them as `now`. It was shown exactly
+    // these events, since the motes' chips began with these stores (`events`), and that this event found no image to start
+    // (`ended`).
+    ghost saw: { Self → (initial now : List Device) → Saw };
+
+    // No event was shown to have ended the replay.
+    ghost running: { Self → Type 0 };
+
+    // What was seen stays seen while nothing is made on the boards of the motes.
+    ghost rests: { (w : Self) (initial old new : List Device) (stores : List Store) (events : List Played)
+        → HaveRested (length stores) old new
+        → (saw w initial old).events stores events → (saw w initial new).events stores events };
 
     /// The script has this many motes.
     fn begun(&mut self, motes: u8)
-        ensures { (initial : List Device) → (saw self.old initial).events [] [] → (saw self.new initial).events [] [] };
+        ensures seen { (initial now : List Device) → (saw self.old initial now).events [] []
+            → (saw self.new initial now).events [] [] }
+        ensures running { running self.old → running self.new };
 
     /// The boards of the motes are used from now on: they were formatted with this many commits counted as spent, or mounted as
     /// they are.
     fn placed(&mut self, motes: u8, used: Option<u32>, boards: &[N])
-        ensures { (initial : List Device) (stores : List Store) → IsPlaced motes used initial (map N.device boards.now) stores
-            → (saw self.old initial).events [] [] → (saw self.new initial).events stores [] };
+        ensures seen { (initial before : List Device) (stores : List Store)
+            → IsPlaced motes used initial (map N.device boards.now) stores
+            → (saw self.old initial before).events [] []
+            → (saw self.new initial (map N.device boards.now)).events stores [] }
+        ensures running { running self.old → running self.new };
 
     /// An image was not declared, since its version was declared with another name or content. A line reports this.
     fn taken(&mut self)
-        ensures { (initial : List Device) (stores : List Store) (events : List Played)
-            → (saw self.old initial).events stores events → (saw self.new initial).events stores events };
+        ensures seen { (initial now : List Device) (stores : List Store) (events : List Played)
+            → (saw self.old initial now).events stores events → (saw self.new initial now).events stores events }
+        ensures running { running self.old → running self.new };
 
     /// An event was applied, also if it was refused or cut, and these lines are reported of it. A frame that it sent is reported
     /// only if `reported` is true: the frames of rounds and sweeps are not.
@@ -44,17 +59,20 @@ pub trait Watcher<N: Nor> {
         reported: bool,
         reports: &[Report],
     )
-        ensures { (initial : List Device) (stores : List Store) (events : List Played) (p : Played)
+        ensures seen { (initial : List Device) (stores : List Store) (events : List Played) (p : Played)
             → LeadTo stores events p.before
-            → IsApplied p event.now reported (deployed world.now (map N.device boards.now) reports.now)
-            → (saw self.old initial).events stores events → (saw self.new initial).events stores (events ++ p ∷ []) };
+            → (x : IsApplied p event.now reported (deployed world.now (map N.device boards.now) reports.now))
+            → (saw self.old initial x.before.boards).events stores events
+            → (saw self.new initial (map N.device boards.now)).events stores (events ++ p ∷ []) }
+        ensures running { running self.old → running self.new };
 
     /// An event found no image to start, and ends the replay. It is not one of those that were applied.
     fn ended(&mut self, event: &Event, boards: &[N])
         ensures seen { (initial : List Device) (stores : List Store) (events : List Played) (w : RuleWorld)
-            → LeadTo stores events w → IsEnding w event.now (map N.device boards.now)
-            → (saw self.old initial).events stores events → (saw self.new initial).events stores events }
-        ensures ended { (initial : List Device) → (saw self.new initial).ended event.now };
+            → LeadTo stores events w → (x : IsEnding w event.now (map N.device boards.now))
+            → (saw self.old initial x.before).events stores events
+            → (saw self.new initial (map N.device boards.now)).events stores events }
+        ensures ended { (initial now : List Device) → (saw self.new initial now).ended event.now };
 }
 
 /// A watcher that does nothing.
@@ -64,7 +82,11 @@ pub struct Unwatched;
 impl<N: Nor> Watcher<N> for Unwatched {
     ghost use Rattle.dg_replay.specs.Shown.{unseen};
 
-    ghost saw = { λ w initial. unseen };
+    ghost saw = { λ w initial now. unseen };
+
+    ghost running = { λ w. Unit {0} };
+
+    ghost rests = { λ w initial old new stores events rested seen. tt };
 
     #[inline(always)]
     fn begun(&mut self, _motes: u8) {}

@@ -1,4 +1,4 @@
-use Rattle.std.proofs.Common.{List, [], map, arith, refl, ◌∙◌}
+use Rattle.std.proofs.Common.{List, [], length, map, arith, refl, ◌∙◌}
 use Rattle.dg_base.specs.Outside.{AtEnd}
 use Rattle.dg_object.specs.Object.{Row}
 use Rattle.dg_words.specs.Counts.{Rose}
@@ -23,15 +23,17 @@ returns-in-Ok-play_lines-clause-done g c = λ rest.
     let put = g.K.Sink.written in
     let writes = g.K.Sink.faults in
     let old = map g.N.Nor.device c.args.boards.now.items in
+    let mid = map g.N.Nor.device c.play_lines.new.boards.items in
+    let new = map g.N.Nor.device c.end_script.new.boards.items in
     let a = c.in-Ok-play_lines.ensures.answer in
     let read = Rose (reads c.args.input.now) (reads c.play_lines.new.input) in
     let failed = Rose (writes c.args.out.now) (writes c.end_script.new.out) in
-    replay_ended {F = g.W.Watcher.saw c.args.watcher.now old} {G = g.W.Watcher.saw c.play_lines.new.watcher old} _ _ _ c.replays_keep_the_rules.ensures a.0 a.1
+    replay_ended {F = g.W.Watcher.saw c.args.watcher.now old old} {G = g.W.Watcher.saw c.play_lines.new.watcher old new} _ _ _ c.replays_keep_the_rules.ensures a.0 a.1
     (λ (table : List Row).
     let x = a.2 table in (
       omega (arith, x.1),
       end_replayed c.end_script.result a.0 (AtEnd (left c.play_lines.new.input)) old (map g.N.Nor.device c.end_script.new.boards.items) (put c.args.out.now) (put c.end_script.new.out) read failed x.0 x.1
-          (script_seen _ _ _ _ _ _ _ _ _ (stores_in (beginning_of x.3.ground x.3.done).world) (events_played x.3.played) x.3.seen
+          (script_seen _ _ _ _ _ _ _ _ _ (stores_in (beginning_of x.3.ground x.3.done).world) (events_played x.3.played) (λ f. g.W.Watcher.rests c.play_lines.new.watcher old mid new (stores_in (beginning_of x.3.ground x.3.done).world) (events_played x.3.played) (c.end_script.ensures.rested (length (stores_in (beginning_of x.3.ground x.3.done).world))) (x.3.seen f))
           (c.end_script.ensures.ends table (script_of a.0) a.0 old (put c.args.out.now) (writes c.args.out.now) c.in-Ok-play_lines.ensures.counts x.2 (reached_unseen x.3))),
     ))
     (λ other. c.in-Ok-play_lines.ensures.unread (λ e. cc)) (λ other. c.end_script.ensures.unfailed other ∙ c.in-Ok-play_lines.ensures.unfailed (λ e. cc))
@@ -43,15 +45,17 @@ returns-in-Ok-play_lines-clause-seen g c = λ rest.
     let put = g.K.Sink.written in
     let writes = g.K.Sink.faults in
     let old = map g.N.Nor.device c.args.boards.now.items in
+    let mid = map g.N.Nor.device c.play_lines.new.boards.items in
+    let new = map g.N.Nor.device c.end_script.new.boards.items in
     let a = c.in-Ok-play_lines.ensures.answer in
     let read = Rose (reads c.args.input.now) (reads c.play_lines.new.input) in
     let failed = Rose (writes c.args.out.now) (writes c.end_script.new.out) in
-    replay_seen {F = g.W.Watcher.saw c.args.watcher.now old} {G = g.W.Watcher.saw c.play_lines.new.watcher old} _ _ _ a.0 a.1
+    replay_seen {F = g.W.Watcher.saw c.args.watcher.now old old} {G = g.W.Watcher.saw c.play_lines.new.watcher old new} _ _ _ a.0 a.1
     (λ (table : List Row).
     let x = a.2 table in (
       omega (arith, x.1),
       end_replayed c.end_script.result a.0 (AtEnd (left c.play_lines.new.input)) old (map g.N.Nor.device c.end_script.new.boards.items) (put c.args.out.now) (put c.end_script.new.out) read failed x.0 x.1
-          (script_seen _ _ _ _ _ _ _ _ _ (stores_in (beginning_of x.3.ground x.3.done).world) (events_played x.3.played) x.3.seen
+          (script_seen _ _ _ _ _ _ _ _ _ (stores_in (beginning_of x.3.ground x.3.done).world) (events_played x.3.played) (λ f. g.W.Watcher.rests c.play_lines.new.watcher old mid new (stores_in (beginning_of x.3.ground x.3.done).world) (events_played x.3.played) (c.end_script.ensures.rested (length (stores_in (beginning_of x.3.ground x.3.done).world))) (x.3.seen f))
           (c.end_script.ensures.ends table (script_of a.0) a.0 old (put c.args.out.now) (writes c.args.out.now) c.in-Ok-play_lines.ensures.counts x.2 (reached_unseen x.3))),
     ))
     (λ other. c.in-Ok-play_lines.ensures.unread (λ e. cc)) (λ other. c.end_script.ensures.unfailed other ∙ c.in-Ok-play_lines.ensures.unfailed (λ e. cc))
@@ -162,7 +166,7 @@ returns-in_default-clause-done g c = λ rest.
 
 pub returns-in_default-clause-seen : goal.returns-in_default-clause-seen
 returns-in_default-clause-seen g c = λ rest table f.
-    (memory_unread _, unread_seen table (g.W.Watcher.saw c.args.watcher.now (map g.N.Nor.device c.args.boards.now.items)) (script_of []) f, λ is. absurd (cc))
+    (memory_unread _, unread_seen table (g.W.Watcher.saw c.args.watcher.now (map g.N.Nor.device c.args.boards.now.items) (map g.N.Nor.device c.args.boards.now.items)) (script_of []) f, λ is. absurd (cc))
 
 pub returns-in-Ok-play_lines-clause-buffers : goal.returns-in-Ok-play_lines-clause-buffers
 returns-in-Ok-play_lines-clause-buffers g c = let b = c.a_mote_buffers_little.ensures in (b.alive, b.values)

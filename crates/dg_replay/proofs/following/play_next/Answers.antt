@@ -20,7 +20,7 @@ play_line-requires g c =
 pub returns-in-Err-next_line-clause-answer : goal.returns-in-Err-next_line-clause-answer
 returns-in-Err-next_line-clause-answer g c =
     λ initial.
-    let F = g.W.Watcher.saw c.args.watcher.now initial in
+    let F = g.W.Watcher.saw c.args.watcher.now initial (map g.N.Nor.device c.args.boards.now.items) in
     let G = F in
     let left = g.S.Source.left in
     let faults = g.S.Source.faults in
@@ -41,8 +41,8 @@ returns-in-Err-next_line-clause-answer g c =
 pub returns-in-Ok-write_text-clause-answer : goal.returns-in-Ok-write_text-clause-answer
 returns-in-Ok-write_text-clause-answer g c =
     λ initial.
-    let F = g.W.Watcher.saw c.args.watcher.now initial in
-    let G = g.W.Watcher.saw c.play_line.new.watcher initial in
+    let F = g.W.Watcher.saw c.args.watcher.now initial (map g.N.Nor.device c.args.boards.now.items) in
+    let G = g.W.Watcher.saw c.play_line.new.watcher initial (map g.N.Nor.device c.play_line.new.boards.items) in
     let left = g.S.Source.left in
     let faults = g.S.Source.faults in
     let writes = g.K.Sink.faults in
@@ -63,8 +63,8 @@ returns-in-Ok-write_text-clause-answer g c =
 pub returns-in-Err-write_text-clause-answer : goal.returns-in-Err-write_text-clause-answer
 returns-in-Err-write_text-clause-answer g c =
     λ initial.
-    let F = g.W.Watcher.saw c.args.watcher.now initial in
-    let G = g.W.Watcher.saw c.play_line.new.watcher initial in
+    let F = g.W.Watcher.saw c.args.watcher.now initial (map g.N.Nor.device c.args.boards.now.items) in
+    let G = g.W.Watcher.saw c.play_line.new.watcher initial (map g.N.Nor.device c.play_line.new.boards.items) in
     let left = g.S.Source.left in
     let faults = g.S.Source.faults in
     let writes = g.K.Sink.faults in
@@ -86,8 +86,8 @@ pub returns-in-Err-pass-clause-answer : goal.returns-in-Err-pass-clause-answer
 returns-in-Err-pass-clause-answer g c =
     λ initial.
     let link = c.in-Err-pass.ensures.cause in
-    let F = g.W.Watcher.saw c.args.watcher.now initial in
-    let G = g.W.Watcher.saw c.play_line.new.watcher initial in
+    let F = g.W.Watcher.saw c.args.watcher.now initial (map g.N.Nor.device c.args.boards.now.items) in
+    let G = g.W.Watcher.saw c.play_line.new.watcher initial (map g.N.Nor.device c.play_line.new.boards.items) in
     let left = g.S.Source.left in
     let faults = g.S.Source.faults in
     let writes = g.K.Sink.faults in
@@ -107,8 +107,8 @@ returns-in-Err-pass-clause-answer g c =
 pub returns-in-Err-play_line-clause-answer : goal.returns-in-Err-play_line-clause-answer
 returns-in-Err-play_line-clause-answer g c =
     λ initial.
-    let F = g.W.Watcher.saw c.args.watcher.now initial in
-    let G = g.W.Watcher.saw c.play_line.new.watcher initial in
+    let F = g.W.Watcher.saw c.args.watcher.now initial (map g.N.Nor.device c.args.boards.now.items) in
+    let G = g.W.Watcher.saw c.play_line.new.watcher initial (map g.N.Nor.device c.play_line.new.boards.items) in
     let left = g.S.Source.left in
     let faults = g.S.Source.faults in
     let writes = g.K.Sink.faults in
@@ -136,7 +136,7 @@ returns-in-Err-clause-answer g c =
     let p = c.args.player.now in
     let before = g.K.Sink.written c.args.out.now in
     let failed = Rose (g.K.Sink.faults c.args.out.now) (g.K.Sink.faults c.args.out.now) in
-    let at = replay_state p old before (g.W.Watcher.saw c.args.watcher.now initial) in
+    let at = replay_state p old before (g.W.Watcher.saw c.args.watcher.now initial old) in
     let n = c.args.reader.now.number + 1 in (
       a.0,
       a.1,

@@ -29,7 +29,7 @@ returns-in-Motes-clause-played g c = λ basis behind stood.
     let m = c.requires.may in
     let is = c.in-Motes.is in
     rw is (motes_as basis.table c.play_motes.result c.args.player.now _ behind.lines behind.world c.in-Motes.motes _ _ _ basis.boards _ (rw is at m.stands) refl (rw is at m.fits)
-    (sym (length-map c.args.boards.now.items g.N.Nor.device)) c.play_motes.ensures.counted c.play_motes.ensures.missing refl (c.play_motes.ensures.begun basis.boards) (c.play_motes.ensures.unshown basis.boards) stood)
+    (sym (length-map c.args.boards.now.items g.N.Nor.device)) c.play_motes.ensures.counted c.play_motes.ensures.missing refl (c.play_motes.ensures.begun basis.boards _) (c.play_motes.ensures.unshown basis.boards _) stood)
 
 pub returns-in-Golden-clause-played : goal.returns-in-Golden-clause-played
 returns-in-Golden-clause-played g c = λ basis behind stood.
@@ -45,7 +45,7 @@ returns-in-Image-clause-played g c = λ basis behind stood.
     let m = c.requires.may in
     let p = c.args.player.now in
     rw e.is (busy_in basis.table c.play_image.result p _ behind.lines behind.world _ _ _ _ basis.boards _ _ (image_has behind.lines e.image e.version e.name e.content) (rw e.is at m.stands) (rw e.is at m.fits)
-    (image_at p.place e.image e.version e.name e.content (rw e.is at m.stands)).0 refl stood (λ u is there. rw (c.take_bytes-name.ensures, c.take_bytes-content.ensures) at (c.play_image.ensures _ basis.boards u is there)))
+    (image_at p.place e.image e.version e.name e.content (rw e.is at m.stands)).0 refl stood (λ u is there. rw (c.take_bytes-name.ensures, c.take_bytes-content.ensures) at (c.play_image.ensures.played _ basis.boards u is there)))
 
 pub returns-in-Link-clause-played : goal.returns-in-Link-clause-played
 returns-in-Link-clause-played g c = λ basis behind stood.

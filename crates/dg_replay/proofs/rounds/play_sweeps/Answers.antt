@@ -11,9 +11,10 @@ use Rattle.dg_replay.proofs.rounds.play_sweeps.Goals as goal
 pub loop-init : goal.loop-init
 loop-init g c =
     let boards = map g.N.Nor.device c.args.boards.now.items in
-    let told = (told_by c.args.line_report.now.text.items (g.W.Watcher.saw c.args.watcher.now)) in (
+    let told = (told_by c.args.line_report.now.text.items (map g.N.Nor.device c.args.boards.now.items) (g.W.Watcher.saw c.args.watcher.now)) in (
       subst (λ (xs : List Item). PlayedSoFar xs c.args.world.now c.args.world.now boards boards told told) (sym (times_none (sweep c.args.links.now))) (so_far_none c.args.world.now boards told),
       keep_same (unreported (times c.args.count (sweep c.args.links.now))) boards boards refl,
+      λ before. before,
     )
 
 pub play_sweep-requires : goal.play_sweep-requires
@@ -25,18 +26,19 @@ pub returns-in_err-play_sweep-clause-played : goal.returns-in_err-play_sweep-cla
 returns-in_err-play_sweep-clause-played g c =
     let p = err_from_is_err_and c.from_residual.result c.from_residual.ensures.1 in
     rw (p.1, p.2)
-    (times_stop c.in_err-play_sweep.field-0.0 c.loop.counter c.args.count (sweep c.args.links.now) c.args.world.now c.loop.world c.play_sweep.new.world _ _ _ (told_by c.args.line_report.now.text.items (g.W.Watcher.saw c.args.watcher.now)) (told_by c.loop.line_report.text.items (g.W.Watcher.saw c.loop.watcher)) (told_by c.play_sweep.new.line_report.text.items (g.W.Watcher.saw c.play_sweep.new.watcher))
+    (times_stop c.in_err-play_sweep.field-0.0 c.loop.counter c.args.count (sweep c.args.links.now) c.args.world.now c.loop.world c.play_sweep.new.world _ _ _ (told_by c.args.line_report.now.text.items (map g.N.Nor.device c.args.boards.now.items) (g.W.Watcher.saw c.args.watcher.now)) (told_by c.loop.line_report.text.items (map g.N.Nor.device c.loop.boards.items) (g.W.Watcher.saw c.loop.watcher)) (told_by c.play_sweep.new.line_report.text.items (map g.N.Nor.device c.play_sweep.new.boards.items) (g.W.Watcher.saw c.play_sweep.new.watcher))
     c.loop.invariant.0 c.loop-test.true c.in_err-play_sweep.ensures.played)
 
 pub loop-preserved : goal.loop-preserved
 loop-preserved g c = (
-  times_so_far c.loop.counter (sweep c.args.links.now) c.args.world.now c.loop.world c.play_sweep.new.world _ _ _ (told_by c.args.line_report.now.text.items (g.W.Watcher.saw c.args.watcher.now)) (told_by c.loop.line_report.text.items (g.W.Watcher.saw c.loop.watcher)) (told_by c.play_sweep.new.line_report.text.items (g.W.Watcher.saw c.play_sweep.new.watcher))
+  times_so_far c.loop.counter (sweep c.args.links.now) c.args.world.now c.loop.world c.play_sweep.new.world _ _ _ (told_by c.args.line_report.now.text.items (map g.N.Nor.device c.args.boards.now.items) (g.W.Watcher.saw c.args.watcher.now)) (told_by c.loop.line_report.text.items (map g.N.Nor.device c.loop.boards.items) (g.W.Watcher.saw c.loop.watcher)) (told_by c.play_sweep.new.line_report.text.items (map g.N.Nor.device c.play_sweep.new.boards.items) (g.W.Watcher.saw c.play_sweep.new.watcher))
       c.loop.invariant.0 c.in_ok-play_sweep.ensures.goes_on c.in_ok-play_sweep.ensures.played,
   sweep_keeps c.loop.counter c.args.count (sweep c.args.links.now) _ _ _ c.loop-test.true c.loop.invariant.1 c.in_ok-play_sweep.ensures.kept,
+  λ before. c.in_ok-play_sweep.ensures.running (λ e. cc) (c.loop.invariant.2 before),
 )
 
 pub returns-clause-played : goal.returns-clause-played
-returns-clause-played g c = at_end c.loop.counter c.args.count (sweep c.args.links.now) c.args.world.now c.loop.world _ _ (told_by c.args.line_report.now.text.items (g.W.Watcher.saw c.args.watcher.now)) (told_by c.loop.line_report.text.items (g.W.Watcher.saw c.loop.watcher)) c.loop-test.false c.loop.auto.counter-end c.loop.invariant.0
+returns-clause-played g c = at_end c.loop.counter c.args.count (sweep c.args.links.now) c.args.world.now c.loop.world _ _ (told_by c.args.line_report.now.text.items (map g.N.Nor.device c.args.boards.now.items) (g.W.Watcher.saw c.args.watcher.now)) (told_by c.loop.line_report.text.items (map g.N.Nor.device c.loop.boards.items) (g.W.Watcher.saw c.loop.watcher)) c.loop-test.false c.loop.auto.counter-end c.loop.invariant.0
 
 pub returns-in_err-play_sweep-clause-kept : goal.returns-in_err-play_sweep-clause-kept
 returns-in_err-play_sweep-clause-kept g c = sweep_keeps c.loop.counter c.args.count (sweep c.args.links.now) _ _ _ c.loop-test.true c.loop.invariant.1 c.in_err-play_sweep.ensures.kept

@@ -9,9 +9,10 @@ use Rattle.dg_replay.proofs.rounds.play_ticks.Goals as goal
 pub loop-init : goal.loop-init
 loop-init g c =
     let boards = map g.N.Nor.device c.args.boards.now.items in
-    let told = (told_by c.args.line_report.now.text.items (g.W.Watcher.saw c.args.watcher.now)) in (
+    let told = (told_by c.args.line_report.now.text.items (map g.N.Nor.device c.args.boards.now.items) (g.W.Watcher.saw c.args.watcher.now)) in (
       subst (λ (xs : List Item). PlayedSoFar xs c.args.world.now c.args.world.now boards boards told told) (sym (times_none (paced c.args.mote ∷ []))) (so_far_none c.args.world.now boards told),
       keep_same (unreported (times c.args.count (paced c.args.mote ∷ []))) boards boards refl,
+      λ before. before,
     )
 
 pub play_tick-requires : goal.play_tick-requires
@@ -23,18 +24,19 @@ pub returns-in_err-play_tick-clause-played : goal.returns-in_err-play_tick-claus
 returns-in_err-play_tick-clause-played g c =
     let p = err_from_is_err_and c.from_residual.result c.from_residual.ensures.1 in
     rw (p.1, p.2)
-    (times_stop c.in_err-play_tick.field-0.0 c.loop.counter c.args.count (paced c.args.mote ∷ []) c.args.world.now c.loop.world c.play_tick.new.world _ _ _ (told_by c.args.line_report.now.text.items (g.W.Watcher.saw c.args.watcher.now)) (told_by c.loop.line_report.text.items (g.W.Watcher.saw c.loop.watcher)) (told_by c.play_tick.new.line_report.text.items (g.W.Watcher.saw c.play_tick.new.watcher))
+    (times_stop c.in_err-play_tick.field-0.0 c.loop.counter c.args.count (paced c.args.mote ∷ []) c.args.world.now c.loop.world c.play_tick.new.world _ _ _ (told_by c.args.line_report.now.text.items (map g.N.Nor.device c.args.boards.now.items) (g.W.Watcher.saw c.args.watcher.now)) (told_by c.loop.line_report.text.items (map g.N.Nor.device c.loop.boards.items) (g.W.Watcher.saw c.loop.watcher)) (told_by c.play_tick.new.line_report.text.items (map g.N.Nor.device c.play_tick.new.boards.items) (g.W.Watcher.saw c.play_tick.new.watcher))
     c.loop.invariant.0 c.loop-test.true c.in_err-play_tick.ensures.played)
 
 pub loop-preserved : goal.loop-preserved
 loop-preserved g c = (
-  times_so_far c.loop.counter (paced c.args.mote ∷ []) c.args.world.now c.loop.world c.play_tick.new.world _ _ _ (told_by c.args.line_report.now.text.items (g.W.Watcher.saw c.args.watcher.now)) (told_by c.loop.line_report.text.items (g.W.Watcher.saw c.loop.watcher)) (told_by c.play_tick.new.line_report.text.items (g.W.Watcher.saw c.play_tick.new.watcher))
+  times_so_far c.loop.counter (paced c.args.mote ∷ []) c.args.world.now c.loop.world c.play_tick.new.world _ _ _ (told_by c.args.line_report.now.text.items (map g.N.Nor.device c.args.boards.now.items) (g.W.Watcher.saw c.args.watcher.now)) (told_by c.loop.line_report.text.items (map g.N.Nor.device c.loop.boards.items) (g.W.Watcher.saw c.loop.watcher)) (told_by c.play_tick.new.line_report.text.items (map g.N.Nor.device c.play_tick.new.boards.items) (g.W.Watcher.saw c.play_tick.new.watcher))
       c.loop.invariant.0 c.in_ok-play_tick.ensures.goes_on c.in_ok-play_tick.ensures.played,
   sweep_keeps c.loop.counter c.args.count (paced c.args.mote ∷ []) _ _ _ c.loop-test.true c.loop.invariant.1 c.in_ok-play_tick.ensures.kept,
+  λ before. c.in_ok-play_tick.ensures.running (λ e. cc) (c.loop.invariant.2 before),
 )
 
 pub returns-clause-played : goal.returns-clause-played
-returns-clause-played g c = at_end c.loop.counter c.args.count (paced c.args.mote ∷ []) c.args.world.now c.loop.world _ _ (told_by c.args.line_report.now.text.items (g.W.Watcher.saw c.args.watcher.now)) (told_by c.loop.line_report.text.items (g.W.Watcher.saw c.loop.watcher)) c.loop-test.false c.loop.auto.counter-end c.loop.invariant.0
+returns-clause-played g c = at_end c.loop.counter c.args.count (paced c.args.mote ∷ []) c.args.world.now c.loop.world _ _ (told_by c.args.line_report.now.text.items (map g.N.Nor.device c.args.boards.now.items) (g.W.Watcher.saw c.args.watcher.now)) (told_by c.loop.line_report.text.items (map g.N.Nor.device c.loop.boards.items) (g.W.Watcher.saw c.loop.watcher)) c.loop-test.false c.loop.auto.counter-end c.loop.invariant.0
 
 pub returns-in_err-play_tick-clause-kept : goal.returns-in_err-play_tick-clause-kept
 returns-in_err-play_tick-clause-kept g c = sweep_keeps c.loop.counter c.args.count (paced c.args.mote ∷ []) _ _ _ c.loop-test.true c.loop.invariant.1 c.in_err-play_tick.ensures.kept
