@@ -11,3 +11,4 @@ mod PageCountLemmas
 mod LineLemmas
 mod PageStepLemmas
 mod WholeLemmas
+pub mod MadeLemmas

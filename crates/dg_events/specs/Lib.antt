@@ -10,3 +10,4 @@ pub mod FrameCounters
 pub mod Uptimes
 pub mod Keeps
 pub mod HaveLines
+pub mod Made
