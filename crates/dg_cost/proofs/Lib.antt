@@ -1,4 +1,5 @@
 mod BytesLemmas
+mod FlashLemmas
 mod FrameLemmas
 mod LookingLemmas
 mod MomentRowLemmas

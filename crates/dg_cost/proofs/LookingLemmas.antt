@@ -1,16 +1,23 @@
 -- What is read of boards before a run.
-use Rattle.std.proofs.Common.{◌≡◌, ℕ, zero, suc, ◌+◌, ◌<◌, ◌≤◌, List, [], ◌∷◌, ◌++◌, length, set, true, false, inl, inr, refl, sym, ap, subst, ◌∙◌, arith, length-append}
-use Rattle.std.specs.Prelude.{slice_get, Option, Some, None}
+use Rattle.std.proofs.Common.{◌≡◌, ℕ, zero, suc, ◌+◌, ◌<◌, ◌≤◌, List, [], ◌∷◌, ◌++◌, length, map, get_or, set, true, false, inl, inr, refl, sym, ap, subst, ◌∙◌, arith, length-append}
+use Rattle.std.specs.Prelude.{slice_get, Option, Some, None, Result, Err, IsErrOf}
 use Rattle.std.specs.Option.{option_flatten}
 use Rattle.std.proofs.lemmas.Bool.{cases_lt}
-use Rattle.dg_nor.specs.Device.{Device}
-use Rattle.dg_nor.specs.Reads.{ReadStopped}
+use Rattle.dg_nor.specs.Device.{Device, Interrupted}
+use Rattle.dg_nor.specs.Fuse.{beneath_of}
+use Rattle.dg_nor.specs.Reads.{Looked, ReadStopped}
 use Rattle.dg_volume.specs.Sizes.{images}
 use Rattle.dg_volume.specs.Stands.{Stands, Mounted, IsNoVolume, kept_at}
 use Rattle.dg_volume.specs.Store.{Store}
 use Rattle.dg_volume.specs.declared.volume.Volume.{Volume}
+use Rattle.dg_volume.specs.declared.volume.MountFault.{MountFault}
+use Rattle.dg_volume.specs.declared.volume.MountFault.TheVariants.{Stopped, NotAVolume}
 use Rattle.dg_moments.specs.declared.given.Given.{Given}
 use Rattle.dg_moments.specs.Looking.{read_of, ReadsBoard, ReadsBoards}
+use Rattle.dg_world.proofs.BoardLemmas.{used_at}
+use Rattle.dg_world.proofs.CountLemmas.{worked_ran, worked_halts}
+use Rattle.dg_world.proofs.FinishLemmas.{ReadTo, read_more}
+use Rattle.dg_world.proofs.FormatLemmas.{first_within}
 
 -- ---- one board
 
@@ -90,3 +97,27 @@ get_within (y ∷ xs) (suc i) x there = let h = get_within xs i x there in omega
 
 pub reads_all : (given : List (Option Given)) (boards : List Device) (i : ℕ) → length boards ≤ i → ReadsFirst i given boards → ReadsBoards given boards
 reads_all given boards i all first m d at = first m d (omega (arith, get_within boards m d at, all)) at
+
+-- ---- boards that are only read
+
+-- one more board was read
+pub board_read : {N : Type 0} (f : N → Device) (n : ℕ) (old new : List Device) (items : List N) (d x e : N) → ReadTo n old (map f items) → n < length items
+    → d ≡ get_or items n x → new ≡ map f (set items n e) → Interrupted 0 (beneath_of (f d)) (beneath_of (f e)) → (f e).image ≡ (f d).image
+    → ReadTo (n + 1) old new
+board_read {N} f n old new items d x e to there was is kept same =
+    subst (λ (ds : List Device). ReadTo (n + 1) old ds) (sym is)
+    (read_more n old (map f items) (map f (set items n e)) (f (get_or items n x)) (f e) to (used_at f items n x e there)
+    (subst (λ (y : N). Interrupted 0 (beneath_of (f y)) (beneath_of (f e))) was kept) (same ∙ ap (λ (y : N). (f y).image) was))
+
+-- a mount that failed only read
+pub mount_failed : (r : Result Volume MountFault) (e : MountFault) (a b : Device) → r ≡ Err e → (IsErrOf r NotAVolume → Looked a b)
+    → (IsErrOf r Stopped → ReadStopped a b) → Interrupted 0 (beneath_of a) (beneath_of b)
+mount_failed r NotAVolume a b is looked stopped = worked_ran (looked is).ran
+mount_failed r Stopped a b is looked stopped = worked_halts 0 (stopped is).halts
+
+-- a board that is left out counts as read
+pub read_past : (n : ℕ) (old now new : List Device) → ReadTo n old now → new ≡ now → ReadTo (n + 1) old new
+read_past n old now new to same = subst (λ (ds : List Device). ReadTo (n + 1) old ds) (sym same) past
+  where
+    past : ReadTo (n + 1) old now
+    past = record { first = first_within n (n + 1) old now to.first (omega arith); images = to.images; none_made = to.none_made }

@@ -1,7 +1,7 @@
 -- The rows of a counter are those of the run that it counted.
 use Rattle.std.proofs.Common.{◌≡◌, ℕ, ◌+◌, ◌*◌, ◌-◌, ◌%◌, ◌^◌, ◌<◌, ◌≤◌, ◌==◌, Bool, true, false, cond, List, [], ◌∷◌, length, get_or, set, min, refl, sym, ap, subst, ◌∙◌, arith}
 use Rattle.std.proofs.Common.{zero, suc, Option, Some, None, inl, inr}
-use Rattle.std.specs.Prelude.{IfSome, slice_get, slice_index}
+use Rattle.std.specs.Prelude.{IfSome, slice_get, slice_index, slice_index_or}
 use Rattle.std.proofs.lemmas.Nat.{mod-mul-add}
 use Rattle.std.proofs.lemmas.Bool.{cases_lt, cases_eq, eq-eqb, ne_eqb, both_ways}
 use Rattle.std.proofs.lemmas.List.Sums.{sum_by-cons}
@@ -16,6 +16,7 @@ use Rattle.dg_replay.specs.Shown.{stores_in, events_played}
 use Rattle.dg_script.specs.Items.{Item, Declares, Applies}
 use Rattle.dg_nor.specs.Device.{Device}
 use Rattle.dg_outside.specs.Outside.{Outside}
+use Rattle.dg_world.specs.Applied.{SameBoards}
 use Rattle.dg_replay.specs.Done.{ReplayDone}
 use Rattle.dg_replay.specs.Replayed.{Progress, Replayed}
 use Rattle.dg_base.specs.declared.answers.Status.{Status}
@@ -35,6 +36,9 @@ use Rattle.dg_cost_text.specs.declared.rows.Counted.{Counted}
 use Rattle.dg_count.specs.Ended.{IsPlaceOfNext, with_ended, all_until, times_until}
 use Rattle.dg_events.specs.FrameCounters.{AreFrames, AreFromOutside, no_frames, no_outside}
 use Rattle.dg_cost.proofs.BytesLemmas.{BringFew, bring_few}
+use Rattle.dg_events.specs.Made.{operations_at}
+use Rattle.dg_count.specs.Chips.{no_tally, operations_found}
+use Rattle.dg_cost.proofs.FlashLemmas.{mote_flash}
 use Rattle.dg_cost.proofs.FrameLemmas.{mote_frames}
 use Rattle.dg_cost.proofs.MomentRowLemmas.{newest_are}
 use Rattle.dg_count.specs.Runs.{CountedRun, CountedReplay}
@@ -253,10 +257,10 @@ ms_all (Some place) played = ap (λ (n : ℕ). n + place.dt) (declared_ms played
 
 -- ---- the counts of a replay
 
-pub run_rows : {table : List Row} {script : Script} (c : Counter) (ran : Status) (came : Progress table script) (counted : Counted)
-    → c.frames.lost ≡ false → c.wholes.lost ≡ false → BringFew (events_played came.played) → CountedReplay ran c came → IsCountOf c ran counted
-    → CountsRun ran came counted
-run_rows c ran came counted kept whole short replay is = record {
+pub run_rows : {table : List Row} {script : Script} (c : Counter) (ran : Status) (came : Progress table script) (boards : List Device) (counted : Counted)
+    → c.frames.lost ≡ false → c.wholes.lost ≡ false → BringFew (events_played came.played) → CountedReplay ran c boards came → IsCountOf c ran counted
+    → CountsRun ran came boards counted
+run_rows c ran came boards counted kept whole short replay is = record {
   motes = is.motes ∙ replay.motes;
   ended = ended_of c ran;
   is_end = end_is c ran came replay.ended;
@@ -285,6 +289,15 @@ run_rows c ran came counted kept whole short replay is = record {
       mote_frames m (events_played came.played) c.frames.sent.items c.frames.motes (get_or c.frames.motes m no_frames) (get_or c.frames.outside m no_outside)
       (table_of_rows rows) replay.times.few short are (are.each m (get_or c.frames.motes m no_frames) (get_there c.frames.motes m no_frames lt))
       (came_in.each m (get_or c.frames.outside m no_outside) (get_there c.frames.outside m no_outside in_outside)) (is.frames m rows there);
+  flash = λ m board rows there here awake.
+      let lt : m < length (stores_in (beginning_of came.ground came.done).world) =
+      omega (arith, get_within counted.motes.items m rows there, is.motes, replay.motes) in
+      let made = replay.chips.made m board lt here awake in (
+        made.0,
+        (λ image wrote. made.1 (replay.running image wrote)),
+        mote_flash (slice_index_or c.formatted m no_tally) (slice_index_or c.settled m no_tally) (operations_at m (events_played came.played) + operations_found made.0) board.made
+            (table_of_rows rows) (replay.chips.shown m board (omega (arith, lt, replay.motes, replay.few)) here) made.2 (is.flash m rows there),
+      );
   moments = record {
     wholes = c.wholes;
     kept = whole;
@@ -310,7 +323,7 @@ text_shows Timed P Q report text f is = is
 
 -- the counter has counted this replay
 abbrev pub SeenReplay : Counter → Status → (a b : Outside) → Type 0
-SeenReplay c ran a b = (table : List Row) → (x : Replayed table ran a b) × CountedReplay ran c x.came
+SeenReplay c ran a b = (table : List Row) → (x : Replayed table ran a b) × CountedReplay ran c b.boards x.came
 
 -- what a counter costs besides does not matter
 cost_shows : (asked : Form) (c : Counter) (costs : Costs) (ran : Status) (a b : Outside) (report text : List ℕ)
@@ -319,7 +332,7 @@ cost_shows : (asked : Form) (c : Counter) (costs : Costs) (ran : Status) (a b : 
 cost_shows asked c costs ran a b report text kept whole seen is =
     text_shows asked (IsCountOf (record c { costs = costs }) ran) (CountsReplay ran a b) report text shows is
   where
-    same : (table : List Row) → CountedReplay ran (record c { costs = costs }) (seen table).0.came
+    same : (table : List Row) → CountedReplay ran (record c { costs = costs }) b.boards (seen table).0.came
     same table = record {
       events = (seen table).1.events;
       times = (seen table).1.times;
@@ -328,25 +341,30 @@ cost_shows asked c costs ran a b report text kept whole seen is =
       motes = (seen table).1.motes;
       few = (seen table).1.few;
       ended = (seen table).1.ended;
+      running = (seen table).1.running;
+      chips = record { shown = (seen table).1.chips.shown; made = (seen table).1.chips.made };
     }
 
     shows : (counted : Counted) → IsCountOf (record c { costs = costs }) ran counted → CountsReplay ran a b counted
     shows counted has table =
-        ((seen table).0, run_rows (record c { costs = costs }) ran (seen table).0.came counted kept whole (bring_few (seen table).0.input (seen table).0.came) (same table) has)
+        ((seen table).0, run_rows (record c { costs = costs }) ran (seen table).0.came b.boards counted kept whole (bring_few (seen table).0.input (seen table).0.came) (same table) has)
 
 -- A report was kept from none on, and the text was made of it and of the counts.
 pub rehearsed : (asked : Form) (c : Counter) (costs : Costs) (ran status : Status) (a b : Outside) (kept report shown text : List ℕ)
-    (faults : ℕ) (before after : List Device) → c.frames.lost ≡ false → c.wholes.lost ≡ false → kept ≡ [] → shown ≡ report
+    (faults : ℕ) (before after : List Device) → SameBoards a.boards before → SameBoards after b.boards → c.frames.lost ≡ false
+    → c.wholes.lost ≡ false → kept ≡ [] → shown ≡ report
     → ReplayDone ran (with_report kept 0 before a) (with_report report faults after b)
     → SeenReplay c ran (with_report kept 0 before a) (with_report report faults after b)
     → IsText asked (IsCountOf (record c { costs = costs }) ran) shown text → CostWrote ran status text a b
     → Rehearsed asked status a b
-rehearsed asked c costs ran status a b kept report shown text faults before after valid whole none same done seen is wrote = record {
+rehearsed asked c costs ran status a b kept report shown text faults before after first last valid whole none same done seen is wrote = record {
   ran = ran;
   report = report;
   faults = faults;
   before = before;
   after = after;
+  read_first = first;
+  read_last = last;
   replayed = subst (λ (xs : List ℕ). ReplayDone ran (with_report xs 0 before a) end) none done;
   text = text;
   is_text = cost_shows asked c costs ran (with_report [] 0 before a) end report text valid whole

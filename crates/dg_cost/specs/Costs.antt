@@ -1,5 +1,5 @@
 -- All that is promised of a replay that writes what it costs (docs/COMMANDS.md, "What a script costs").
-use Rattle.std.specs.Prelude.{◌≡◌, false, ◌⊎◌, ℕ, ◌+◌, map, List, [], Some, None, Option, length, slice_get}
+use Rattle.std.specs.Prelude.{◌≡◌, ◌≢◌, false, ◌⊎◌, ℕ, ◌+◌, map, List, [], Some, None, Option, length, slice_get}
 use Rattle.std.specs.List.{range_with_len}
 use Rattle.dg_words.specs.Counts.{Rose}
 use Rattle.dg_base.specs.Outside.{Puts, PutsPrefix}
@@ -11,6 +11,7 @@ use Rattle.dg_rules.specs.Runs.{Played}
 use Rattle.dg_script.specs.Script.{Script}
 use Rattle.dg_volume.specs.Store.{Store}
 use Rattle.dg_outside.specs.Outside.{Outside}
+use Rattle.dg_world.specs.Applied.{SameBoards}
 use Rattle.dg_replay.specs.Done.{ReplayDone}
 use Rattle.dg_replay.specs.Items.{beginning_of}
 use Rattle.dg_replay.specs.Shown.{stores_in, events_played}
@@ -24,11 +25,14 @@ use Rattle.dg_cost_text.specs.declared.rows.Rows.{Rows}
 use Rattle.dg_moments.specs.Moments.{loaded_images, newest_at}
 use Rattle.dg_moments.specs.Wholes.{HasWholes}
 use Rattle.dg_moments.specs.declared.wholes.Wholes.{Wholes}
+use Rattle.dg_events.specs.Made.{operations_at}
+use Rattle.dg_count.specs.Chips.{FoundNone, operations_found}
 use Rattle.dg_count.specs.Ended.{IsPlaceOfNext}
 use Rattle.dg_count.specs.declared.place.EventPlace.{EventPlace}
 use Rattle.dg_cost.specs.EventRows.{HasRows, HasEvents}
 use Rattle.dg_cost.specs.TimeRows.{time_rows, moment_rows}
 use Rattle.dg_cost.specs.FrameRows.{HasFrameRows}
+use Rattle.dg_cost.specs.FlashRows.{HasFlashRows}
 use Rattle.dg_cost.specs.MomentRows.{HasWholeRows, HasAllRows}
 use Rattle.dg_cost.specs.declared.call.Form.{Form}
 use Rattle.dg_cost.specs.declared.call.Form.TheVariants.{Table, Csv, Json, Timed}
@@ -51,8 +55,9 @@ IsEndOf NoImage came ended = IsPlaceOfNext came.left ended
 IsEndOf ran came ended = ended ≡ None
 
 -- The counts of a replay that ended with this status: a table for each mote whose board was used, with the rows of the events
--- that were played there. Where the replay ended since an event found no image to start, that event counts too.
-pub record CountsRun {table : List Row} {script : Script} (ran : Status) (came : Progress table script)
+-- that were played there. Where the replay ended since an event found no image to start, that event counts too. The replay left
+-- these boards.
+pub record CountsRun {table : List Row} {script : Script} (ran : Status) (came : Progress table script) (boards : List Device)
     (counted : Counted) : Type 0 where
   pub motes : length counted.motes.items ≡ length (stores_in (beginning_of came.ground came.done).world)
   pub ended : Option EventPlace
@@ -64,11 +69,17 @@ pub record CountsRun {table : List Row} {script : Script} (ran : Status) (came :
       → HasEvents ended m came.played (table_of_rows rows)
   pub frames : (m : ℕ) (rows : Rows) → slice_get counted.motes.items m ≡ Some rows
       → HasFrameRows m (events_played came.played) (table_of_rows rows)
+  -- the operations of the trails of what was played, and those of an event that found no image to start, if one ended the run:
+  -- nothing is said of a mote whose board is stopped
+  pub flash : (m : ℕ) (board : Device) (rows : Rows) → slice_get counted.motes.items m ≡ Some rows
+      → slice_get boards m ≡ Some board → board.stopped ≡ false → (found : List (FoundNone (events_played came.played) m))
+      × (ran ≢ NoImage → ran ≢ WriteFault → found ≡ [])
+      × HasFlashRows (operations_at m (events_played came.played) + operations_found found) board.made (table_of_rows rows)
   pub moments : HasMomentRows (stores_in (beginning_of came.ground came.done).world) (events_played came.played) counted
 
 -- whichever table the boards are checked against, these are the counts of that replay
 abbrev pub CountsReplay : (ran : Status) → (a b : Outside) → Counted → Type 0
-CountsReplay ran a b counted = (table : List Row) → (x : Replayed table ran a b) × CountsRun ran x.came counted
+CountsReplay ran a b counted = (table : List Row) → (x : Replayed table ran a b) × CountsRun ran x.came b.boards counted
 
 -- the text that is written in this form, after a replay that wrote this report, with counts of that replay
 abbrev pub IsText : Form → (counts : Counted → Type 0) → (report text : List ℕ) → Type 0
@@ -95,6 +106,9 @@ pub record Rehearsed (asked : Form) (status : Status) (a b : Outside) : Type 0 w
   pub faults : ℕ
   pub before : List Device
   pub after : List Device
+  -- the boards were only read before the run, and after it
+  pub read_first : SameBoards a.boards before
+  pub read_last : SameBoards after b.boards
   pub replayed : ReplayDone ran (with_report [] 0 before a) (with_report report faults after b)
   pub text : List ℕ
   pub is_text : IsText asked

@@ -5,6 +5,7 @@ use Rattle.dg_base.specs.declared.answers.Status.TheVariants.{NoImage}
 use Rattle.dg_cost_text.specs.Table.{table_of_rows}
 use Rattle.dg_cost_text.specs.declared.rows.Counted.{Counted}
 use Rattle.dg_cost_text.specs.declared.rows.Rows.{Rows}
+use Rattle.dg_count.specs.Chips.{no_tally}
 use Rattle.dg_count.specs.Ended.{counts_at, all_until, times_until}
 use Rattle.dg_count.specs.declared.counter.Counter.{Counter}
 use Rattle.dg_count.specs.declared.place.EventPlace.{EventPlace}
@@ -12,6 +13,7 @@ use Rattle.dg_events.specs.Uptimes.{never_on}
 use Rattle.dg_cost.specs.EventRows.{HasCounts, HasRows}
 use Rattle.dg_events.specs.FrameCounters.{no_frames, no_outside}
 use Rattle.dg_cost.specs.FrameRows.{HasFrameCounts}
+use Rattle.dg_cost.specs.FlashRows.{flash_run_rows}
 use Rattle.dg_cost.specs.MomentRows.{HasWholeRows, TellsAll}
 use Rattle.dg_cost.specs.TimeRows.{rows_of_power, rows_of_moment}
 
@@ -33,6 +35,9 @@ pub record IsCountWith (c : Counter) (ended : Option EventPlace) (counted : Coun
       → HasCounts (counts_at ended c.events m) (table_of_rows rows)
   pub frames : (m : ℕ) (rows : Rows) → slice_get counted.motes.items m ≡ Some rows
       → HasFrameCounts (slice_index_or c.frames.motes m no_frames) (slice_index_or c.frames.outside m no_outside)
+      (table_of_rows rows)
+  pub flash : (m : ℕ) (rows : Rows) → slice_get counted.motes.items m ≡ Some rows
+      → HasRows (flash_run_rows (slice_index_or c.formatted m no_tally) (slice_index_or c.settled m no_tally))
       (table_of_rows rows)
   pub wholes : (m : ℕ) (rows : Rows) → slice_get counted.motes.items m ≡ Some rows
       → HasWholeRows m c.wholes.moments (table_of_rows rows)

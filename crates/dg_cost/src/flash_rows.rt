@@ -1,13 +1,15 @@
 //! The rows of a chip.
-ghost use Rattle.std.specs.Prelude.{OnOk};
-ghost use Rattle.dg_cost_text.specs.Moments.{BeginsNoMoment, AddsNoMoment};
+ghost use Rattle.std.specs.Prelude.{◌≡◌, ◌++◌, [], IfOk, OnOk};
+ghost use Rattle.dg_cost_text.specs.Moments.{AddsNoMoment};
 ghost use Rattle.dg_cost_text.specs.Table.{table_of_rows};
+ghost use Rattle.dg_cost.specs.EventRows.{HasRows};
+ghost use Rattle.dg_cost.specs.FlashRows.{rows_of_kind, flash_run_rows};
 
 use dg_cost_text::{Part, Rows};
 use dg_events::EVENTS;
 use dg_meter::{Kind, REGIONS, Region, Share, Shares, Tally};
 use dg_mote_cost::{HotCost, MoteCost};
-use std::alloc::AllocError;
+use std::alloc::{AllocError, Global};
 
 /// The regions of the rows, each with one or two regions of a meter.
 fn regions() -> [(&'static str, Region, Option<Region>); 5] {
@@ -36,47 +38,61 @@ fn count_of(counts: &[u64; REGIONS], one: Region, other: Option<Region>) -> u64 
     }
 }
 
-/// The rows of the operations of a phase, without those of the phases before it.
-fn push_flash(rows: &mut Rows, phase: &str, tally: &Tally, before: &Tally) -> Result<(), AllocError>
-    ensures { OnOk result (BeginsNoMoment phase.now → AddsNoMoment (table_of_rows rows.old) (table_of_rows rows.new)) }
-{
-    let (made, made_before) = (tally.of(Kind::Program), before.of(Kind::Program));
-    push_kind(rows, phase, "program.", made, made_before)?;
-    let (made, made_before) = (tally.of(Kind::Erase), before.of(Kind::Erase));
-    push_kind(rows, phase, "erase.", made, made_before)?;
-    Ok(())
-}
-
+/// The operations of a kind in each part of a chip, without those that were made earlier.
 fn push_kind(
     rows: &mut Rows,
-    phase: &str,
-    kind: &str,
+    before: &str,
+    earlier: &Shares,
     made: &Shares,
-    before: &Shares,
 ) -> Result<(), AllocError>
-    ensures { OnOk result (BeginsNoMoment phase.now → AddsNoMoment (table_of_rows rows.old) (table_of_rows rows.new)) }
+    ensures { OnOk result (table_of_rows rows.new ≡ table_of_rows rows.old ++ rows_of_kind before.now earlier.now made.now) }
 {
-    for (name, one, other) in regions() {
-        let share = region_share(made, one, other).since(region_share(before, one, other));
-        push_region(rows, phase, kind, name, share)?;
-    }
+    rows.share(before, "ledger", made.ledger.since(earlier.ledger))?;
+    rows.share(before, "control", made.control.since(earlier.control))?;
+    rows.share(before, "program", made.program.since(earlier.program))?;
+    let slots = made.page.with(made.head);
+    rows.share(
+        before,
+        "slots",
+        slots.since(earlier.page.with(earlier.head)),
+    )?;
+    rows.share(before, "heads", made.head.since(earlier.head))?;
     Ok(())
 }
 
-/// The two rows of a region.
-fn push_region(
-    rows: &mut Rows,
-    phase: &str,
-    kind: &str,
-    name: &str,
-    share: Share,
-) -> Result<(), AllocError>
-    ensures { OnOk result (BeginsNoMoment phase.now → AddsNoMoment (table_of_rows rows.old) (table_of_rows rows.new)) }
+/// The starts that copied into program memory, the operations that formatted a mote's chip, and those of the run.
+pub fn flash_rows(
+    alloc: Global,
+    copied: u64,
+    formatted: &Tally,
+    settled: &Tally,
+) -> Result<Rows, AllocError>
+    ensures run { IfOk result (λ rows. HasRows (flash_run_rows formatted.now settled.now) (table_of_rows rows)) }
+    ensures moments { IfOk result (λ rows. AddsNoMoment [] (table_of_rows rows)) }
 {
-    let parts = [Part::Text(phase), Part::Text(kind), Part::Text(name)];
-    rows.push_ended(&parts, ".count", share.count, true)?;
-    rows.push_ended(&parts, ".bytes", share.bytes, true)?;
-    Ok(())
+    let none = Shares::none();
+    let mut rows = Rows::new(alloc);
+    rows.sum("starts.copied", copied)?;
+    push_kind(
+        &mut rows,
+        "flash.format.program.",
+        &none,
+        &formatted.programs,
+    )?;
+    push_kind(&mut rows, "flash.format.erase.", &none, &formatted.erases)?;
+    push_kind(
+        &mut rows,
+        "flash.run.program.",
+        &formatted.programs,
+        &settled.programs,
+    )?;
+    push_kind(
+        &mut rows,
+        "flash.run.erase.",
+        &formatted.erases,
+        &settled.erases,
+    )?;
+    Ok(rows)
 }
 
 fn push_cut(rows: &mut Rows, kind: &str, counts: &[u64; REGIONS]) -> Result<(), AllocError>
@@ -93,8 +109,6 @@ fn push_cut(rows: &mut Rows, kind: &str, counts: &[u64; REGIONS]) -> Result<(), 
 pub fn push_chip(rows: &mut Rows, cost: &MoteCost, hot: &HotCost) -> Result<(), AllocError>
     ensures { OnOk result (AddsNoMoment (table_of_rows rows.old) (table_of_rows rows.new)) }
 {
-    push_flash(rows, "flash.format.", &cost.format, &Tally::none())?;
-    push_flash(rows, "flash.run.", &cost.tally, &cost.format)?;
     push_cut(rows, "program.", &cost.cut_programs)?;
     push_cut(rows, "erase.", &cost.cut_erases)?;
     rows.each("flash.event.", &EVENTS, &hot.flash_events, ".count")?;
@@ -125,12 +139,12 @@ fn push_commits(rows: &mut Rows, cost: &MoteCost) -> Result<(), AllocError>
 }
 
 /// Adds the operations, the bytes programmed and the erases of a mote.
-pub fn with_flash(sums: (u64, u64, u64), cost: &MoteCost) -> (u64, u64, u64) {
+pub fn with_flash(sums: (u64, u64, u64), formatted: &Tally, settled: &Tally) -> (u64, u64, u64) {
     let (mut count, mut bytes, mut erases) = sums;
     for (_, one, other) in regions() {
         if one != Region::Head {
-            let programs = made_since(cost, Kind::Program, one, other);
-            let erased = made_since(cost, Kind::Erase, one, other);
+            let programs = made_since(formatted, settled, Kind::Program, one, other);
+            let erased = made_since(formatted, settled, Kind::Erase, one, other);
             count = count
                 .saturating_add(programs.count)
                 .saturating_add(erased.count);
@@ -142,7 +156,13 @@ pub fn with_flash(sums: (u64, u64, u64), cost: &MoteCost) -> (u64, u64, u64) {
 }
 
 /// The operations of a mote's chip in the run.
-fn made_since(cost: &MoteCost, kind: Kind, one: Region, other: Option<Region>) -> Share {
-    let made = region_share(cost.tally.of(kind), one, other);
-    made.since(region_share(cost.format.of(kind), one, other))
+fn made_since(
+    formatted: &Tally,
+    settled: &Tally,
+    kind: Kind,
+    one: Region,
+    other: Option<Region>,
+) -> Share {
+    let made = region_share(settled.of(kind), one, other);
+    made.since(region_share(formatted.of(kind), one, other))
 }

@@ -1,7 +1,9 @@
 //! What boards keep before a run, and how much room is left after it.
-ghost use Rattle.std.specs.Prelude.{map, IfOk};
+ghost use Rattle.std.specs.Prelude.{◌≡◌, map, IfOk};
 ghost use Rattle.dg_meter.specs.Meters.{metered_device};
 ghost use Rattle.dg_moments.specs.Looking.{ReadsBoard, ReadsBoards};
+ghost use Rattle.dg_nor.specs.Device.{Interrupted, beneath_of};
+ghost use Rattle.dg_world.specs.Applied.{SameBoards};
 
 use dg_count::Costs;
 use dg_meter::Metered;
@@ -15,7 +17,9 @@ pub fn look<N: Nor>(
     alloc: Global,
     boards: &mut Vec<Metered<N>>,
 ) -> Result<Vec<Option<Given>>, AllocError>
-    ensures { IfOk result (λ given. ReadsBoards given.items (map (metered_device N.device) boards.new.items)) }
+    ensures given { IfOk result (λ given. ReadsBoards given.items (map (metered_device N.device) boards.new.items)) }
+    // also if memory runs out
+    ensures read { SameBoards (map (metered_device N.device) boards.old.items) (map (metered_device N.device) boards.new.items) }
 {
     let mut given = Vec::new(alloc);
     for index in 0..boards.len() {
@@ -26,7 +30,10 @@ pub fn look<N: Nor>(
 
 /// What a board keeps before the run, if it is a volume.
 fn look_at<N: Nor>(board: &mut Metered<N>) -> Option<Given>
-    ensures { ReadsBoard result (metered_device N.device board.new) }
+    ensures given { ReadsBoard result (metered_device N.device board.new) }
+    ensures same_image { (metered_device N.device board.new).image ≡ (metered_device N.device board.old).image }
+    ensures read { Interrupted 0 (beneath_of (metered_device N.device board.old))
+        (beneath_of (metered_device N.device board.new)) }
 {
     match Volume::mount(board) {
         Ok(volume) => Some(Given {
@@ -39,7 +46,9 @@ fn look_at<N: Nor>(board: &mut Metered<N>) -> Option<Given>
 }
 
 /// Reads the room that is left on each chip at the end.
-pub fn look_again<N: Nor>(costs: &mut Costs, boards: &mut Vec<Metered<N>>) {
+pub fn look_again<N: Nor>(costs: &mut Costs, boards: &mut Vec<Metered<N>>)
+    ensures read { SameBoards (map (metered_device N.device) boards.old.items) (map (metered_device N.device) boards.new.items) }
+{
     for index in 0..boards.len() {
         if index < boards.len() && index < costs.motes.len() {
             if let Ok(volume) = Volume::mount(&mut boards[index]) {

@@ -4,23 +4,25 @@ ghost use Rattle.std.specs.Prelude.{if◌then◌else◌, length, slice_get, slic
 ghost use Rattle.dg_cost_text.specs.Moments.{is_moment_key, summed_table, AddsNoMoment};
 ghost use Rattle.dg_cost_text.specs.Table.{table_of_rows};
 ghost use Rattle.dg_cost_text.specs.declared.rows.Rows.{Rows};
+ghost use Rattle.dg_count.specs.Chips.{no_tally};
 ghost use Rattle.dg_count.specs.Ended.{counts_at};
 ghost use Rattle.dg_cost.specs.Counting.{IsCountOf, ended_of};
 ghost use Rattle.dg_events.specs.Uptimes.{never_on};
 ghost use Rattle.dg_cost.specs.EventRows.{rows_of_events, rows_of_starts, rows_of_images, HasCounts, HasRows};
 ghost use Rattle.dg_events.specs.FrameCounters.{no_frames, no_outside};
+ghost use Rattle.dg_cost.specs.FlashRows.{flash_run_rows};
 ghost use Rattle.dg_cost.specs.FrameRows.{HasFrameCounts};
 ghost use Rattle.dg_cost.specs.MomentRows.{HasMoments, SumsNoMoment, TellsAll};
 ghost use Rattle.dg_cost.specs.TimeRows.{rows_of_power, rows_of_moment};
 
-use crate::flash_rows::{push_chip, with_flash};
+use crate::flash_rows::{flash_rows, push_chip, with_flash};
 use crate::frame_rows::frame_rows;
 use crate::moment_rows::{push_all_moments, push_wholes};
 use dg_base::Status;
 use dg_cost_text::{Counted, Moment, Row, Rows, total_of};
-use dg_count::{Counter, EventPlace};
+use dg_count::{Counter, EventPlace, tally_at};
 use dg_events::{CAUSES, EVENTS, EventCounts, FrameCounter, SENT_KINDS, Uptime, Uptimes};
-use dg_meter::Share;
+use dg_meter::{Share, Tally};
 use dg_moments::Wholes;
 use dg_mote_cost::{HotCost, MoteCost, share_of};
 use std::alloc::{AllocError, Global};
@@ -98,7 +100,6 @@ fn chip_rows(
     ensures { IfOk result (λ rows. HasMoments mote wholes.now.moments rows) }
 {
     let mut rows = Rows::new(alloc);
-    rows.sum("starts.copied", cost.starts_copied)?;
     push_chip(&mut rows, cost, hot)?;
     push_wholes(&mut rows, mote, wholes)?;
     Ok(rows)
@@ -114,12 +115,15 @@ fn mote_rows(
     frames: &FrameCounter,
     uptime: &Uptime,
     ms: u64,
+    formatted: &Tally,
+    settled: &Tally,
     wholes: &Wholes,
 ) -> Result<Rows, AllocError>
     ensures counts { IfOk result (λ rows. HasCounts events.now (table_of_rows rows)) }
     ensures power { IfOk result (λ rows. HasRows (rows_of_power uptime.now ms) (table_of_rows rows)) }
     ensures frames { IfOk result (λ rows. HasFrameCounts (slice_index_or frames.now.motes mote no_frames)
         (slice_index_or frames.now.outside mote no_outside) (table_of_rows rows)) }
+    ensures flash { IfOk result (λ rows. HasRows (flash_run_rows formatted.now settled.now) (table_of_rows rows)) }
     ensures moments { IfOk result (λ rows. HasMoments mote wholes.now.moments rows) }
 {
     let counts = frames.at(mote);
@@ -131,6 +135,7 @@ fn mote_rows(
     push_starts(&mut rows, events)?;
     rows.append(failed_rows(alloc, cost)?)?;
     push_images(&mut rows, events)?;
+    rows.append(flash_rows(alloc, cost.starts_copied, formatted, settled)?)?;
     rows.append(chip_rows(alloc, mote, cost, hot, wholes)?)?;
     Ok(rows)
 }
@@ -171,8 +176,10 @@ fn push_totals(all: &mut Rows, counter: &Counter) -> Result<(), AllocError>
         }
     }
     let mut flash = (0, 0, 0);
-    for cost in &counter.costs.motes {
-        flash = with_flash(flash, cost);
+    for mote in 0..counter.costs.motes.len() {
+        let formatted = tally_at(&counter.formatted, mote);
+        let settled = tally_at(&counter.settled, mote);
+        flash = with_flash(flash, &formatted, &settled);
     }
     all.own("sent.frames", sent.count)?;
     all.own("sent.bytes", sent.bytes)?;
@@ -261,6 +268,9 @@ fn rows_of_motes(
     ensures frames { IfOk result (λ motes. (m : ℕ) (rows : Rows) → slice_get motes.items m ≡ Some rows
         → HasFrameCounts (slice_index_or counter.now.frames.motes m no_frames)
         (slice_index_or counter.now.frames.outside m no_outside) (table_of_rows rows)) }
+    ensures flash { IfOk result (λ motes. (m : ℕ) (rows : Rows) → slice_get motes.items m ≡ Some rows
+        → HasRows (flash_run_rows (slice_index_or counter.now.formatted m no_tally)
+        (slice_index_or counter.now.settled m no_tally)) (table_of_rows rows)) }
     ensures moments { IfOk result (λ motes. (m : ℕ) (rows : Rows) → slice_get motes.items m ≡ Some rows
         → HasMoments m counter.now.wholes.moments rows) }
 {
@@ -271,9 +281,12 @@ fn rows_of_motes(
         let hot = counter.costs.hot_of(mote);
         let frames = &counter.frames;
         let uptime = times.at(mote);
+        let formatted = tally_at(&counter.formatted, mote);
+        let settled = tally_at(&counter.settled, mote);
         let wholes = &counter.wholes;
         let rows = mote_rows(
-            alloc, mote, &cost, &hot, &events, frames, &uptime, times.ms, wholes,
+            alloc, mote, &cost, &hot, &events, frames, &uptime, times.ms, &formatted, &settled,
+            wholes,
         )?;
         motes.push(rows)?;
     }

@@ -25,7 +25,7 @@ told_whole : (kept : Option Held) → whole_kept (told kept) ≡ whole_version k
 told_whole None = refl
 told_whole (Some h) = refl
 
-get_there : {A : Type 0} (xs : List A) (i : ℕ) → i < length xs → (x : A) × (slice_get xs i ≡ Some x)
+pub get_there : {A : Type 0} (xs : List A) (i : ℕ) → i < length xs → (x : A) × (slice_get xs i ≡ Some x)
 get_there [] i lt = absurd (omega (arith, lt))
 get_there (x ∷ xs) zero lt = (x, refl)
 get_there (x ∷ xs) (suc i) lt = get_there xs i (omega (arith, lt))

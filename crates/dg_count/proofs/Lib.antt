@@ -1,4 +1,6 @@
 mod FrameLemmas
-mod GivenLemmas
+pub mod GivenLemmas
 mod FaultLemmas
 mod RunLemmas
+mod TallyLemmas
+pub mod ChipLemmas

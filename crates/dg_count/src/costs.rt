@@ -76,15 +76,6 @@ impl Costs {
         }
     }
 
-    /// Takes over the operations that were made up to the end of the replay.
-    pub fn settle_operations<N: Nor>(&mut self, boards: &[Metered<N>]) {
-        for index in 0..boards.len() {
-            if index < self.motes.len() {
-                self.motes[index].tally = *boards[index].tally();
-            }
-        }
-    }
-
     /// Takes over the packets of the pages that are not complete at the end of the replay.
     pub fn settle_fills(&mut self, frames: &mut FrameCounter)
         ensures { KeepsFrames frames.old frames.new }
@@ -137,7 +128,6 @@ impl Costs {
         for mote in 0..motes {
             let mut cost = MoteCost::new();
             if let Some(board) = boards.get(usize::from(mote)) {
-                cost.format = *board.tally();
                 cost.tally = *board.tally();
                 self.note_made(usize::from(mote), &cost.tally);
             }

@@ -1,21 +1,25 @@
 //! What is counted of a replay.
-ghost use Rattle.std.specs.Prelude.{◌≡◌, ◌<◌, ◌^◌, true, false, List, [], length, IfSome};
+ghost use Rattle.std.specs.Prelude.{◌≡◌, ◌<◌, ◌^◌, true, false, List, [], length, map, None, IfSome};
 ghost use Rattle.dg_volume.specs.Store.{Store};
 ghost use Rattle.dg_rules.specs.Runs.{Played};
 ghost use Rattle.dg_nor.specs.Device.{Device};
 ghost use Rattle.dg_moments.specs.Looking.{ReadsBoards};
 ghost use Rattle.dg_moments.specs.Moments.{is_loaded, newest_at};
 ghost use Rattle.dg_moments.specs.Wholes.{KnowsImage};
+ghost use Rattle.dg_meter.specs.Meters.{metered_device};
+ghost use Rattle.dg_count.specs.Chips.{AreTallies};
 ghost use Rattle.dg_count.specs.Runs.{HasSeen};
 ghost use Rattle.dg_count.specs.Ended.{counts_at, times_until, all_until};
 
 use crate::costs::Costs;
 use crate::place::EventPlace;
+use crate::tallies::tallies_of;
+use dg_base::MOST_MOTES;
 use dg_cost_text::Moment;
 use dg_events::{
     EventCounter, EventCounts, FrameCounter, Uptimes, add_one, have_lines_tell_what_became_whole,
 };
-use dg_meter::Metered;
+use dg_meter::{Metered, Tally};
 use dg_moments::{Given, Wholes};
 use dg_nor::Nor;
 use std::alloc::Global;
@@ -37,12 +41,17 @@ pub struct Counter {
     pub costs: Costs,
     /// The event that found no image to start, and ended the replay.
     pub ended: Option<EventPlace>,
+    /// The operations that formatted the chips, or were made on them before they were used as they are.
+    pub formatted: [Tally; MOST_MOTES as usize],
+    /// The operations that were made on the chips up to the end of the replay.
+    pub settled: [Tally; MOST_MOTES as usize],
 }
 
 impl Counter {
     /// Nothing was played. This is given of each board, by its mote: what it keeps, or nothing, if it is no volume.
     pub fn new(alloc: Global, given: Vec<Option<Given>>, timed: bool) -> Counter
-        ensures { (initial : List Device) → ReadsBoards given.items initial → HasSeen result initial [] [] }
+        ensures seen { (initial now : List Device) → ReadsBoards given.items initial → HasSeen result initial now [] [] }
+        ensures running { result.ended ≡ None }
     {
         have_lines_tell_what_became_whole();
         Counter {
@@ -53,6 +62,8 @@ impl Counter {
             wholes: Wholes::new(alloc, given),
             costs: Costs::new(alloc, timed),
             ended: None,
+            formatted: [Tally::none(); MOST_MOTES as usize],
+            settled: [Tally::none(); MOST_MOTES as usize],
         }
     }
 
@@ -66,11 +77,12 @@ impl Counter {
 
     /// The replay ended on these boards. What was counted of events, times and frames stays counted.
     pub fn settle<N: Nor>(&mut self, boards: &[Metered<N>])
-        ensures seen { (initial : List Device) (stores : List Store) (played : List Played)
-            → HasSeen self.old initial stores played → HasSeen self.new initial stores played }
+        ensures seen { (initial now : List Device) (stores : List Store) (played : List Played)
+            → HasSeen self.old initial now stores played → HasSeen self.new initial now stores played }
         ensures ended { self.new.ended ≡ self.old.ended }
+        ensures tallies { AreTallies self.new.settled (map (metered_device N.device) boards.now) }
     {
-        self.costs.settle_operations(boards);
+        self.settled = tallies_of(boards);
         self.costs.settle_fills(&mut self.frames);
     }
 

@@ -9,7 +9,7 @@ ghost use Rattle.dg_world.specs.Worlds.{IsWorld};
 ghost use Rattle.dg_events.specs.Kinds.{event_number};
 ghost use Rattle.dg_events.specs.Frames.{is_hearing};
 ghost use Rattle.dg_events.specs.Told.{nothing_told, told_by};
-ghost use Rattle.dg_count.specs.Runs.{CountsEvent, NotesWholes, TimesEvent};
+ghost use Rattle.dg_count.specs.Runs.{CountsEvent, NotesWholes, TimesEvent, placement_of};
 ghost use Rattle.dg_count.specs.Shown.{CountsFrames, IsNumberOf};
 
 use crate::counter::Counter;
@@ -65,7 +65,7 @@ impl Counter {
         requires quiet { told_by reports.now ≡ nothing_told }
         requires wide { (stores : List Device) (w : RuleWorld) → IsWorld world.now stores w → wide_at w mote ≡ true }
         ensures counts { CountsEvent self.old.events self.new.events event.now reports.now }
-        ensures placed { self.new.placed ≡ self.old.placed }
+        ensures placed { placement_of self.new ≡ placement_of self.old }
         ensures times { TimesEvent self.old self.new event.now reports.now }
         ensures frames { CountsFrames self.old.frames self.new.frames world.now event.now reports.now }
         ensures wholes { NotesWholes self.old self.new (map (metered_device N.device) boards.now) event.now reports.now }
@@ -103,7 +103,7 @@ impl Counter {
         requires hears { is_hearing event.now ≡ true }
         requires number { IsNumberOf world.now event.now frame }
         ensures counts { CountsEvent self.old.events self.new.events event.now reports.now }
-        ensures placed { self.new.placed ≡ self.old.placed }
+        ensures placed { placement_of self.new ≡ placement_of self.old }
         ensures times { TimesEvent self.old self.new event.now reports.now }
         ensures frames { CountsFrames self.old.frames self.new.frames world.now event.now reports.now }
         ensures wholes { NotesWholes self.old self.new (map (metered_device N.device) boards.now) event.now reports.now }
@@ -141,7 +141,7 @@ impl Counter {
     )
         requires is { event.now ≡ Hear mote dt word frame }
         ensures counts { CountsEvent self.old.events self.new.events event.now reports.now }
-        ensures placed { self.new.placed ≡ self.old.placed }
+        ensures placed { placement_of self.new ≡ placement_of self.old }
         ensures times { TimesEvent self.old self.new event.now reports.now }
         ensures frames { CountsFrames self.old.frames self.new.frames world.now event.now reports.now }
         ensures wholes { NotesWholes self.old self.new (map (metered_device N.device) boards.now) event.now reports.now }
@@ -167,7 +167,7 @@ impl Counter {
         reports: &[Report],
     )
         ensures counts { CountsEvent self.old.events self.new.events (Hear mote dt word frame) reports.now }
-        ensures placed { self.new.placed ≡ self.old.placed }
+        ensures placed { placement_of self.new ≡ placement_of self.old }
         ensures times { TimesEvent self.old self.new (Hear mote dt word frame) reports.now }
         ensures frames { CountsFrames self.old.frames self.new.frames world.now (Hear mote dt word frame) reports.now }
         ensures wholes { NotesWholes self.old self.new (map (metered_device N.device) boards.now) (Hear mote dt word frame)
@@ -206,7 +206,7 @@ impl Counter {
     )
         requires is { event.now ≡ Last from to dt word }
         ensures counts { CountsEvent self.old.events self.new.events event.now reports.now }
-        ensures placed { self.new.placed ≡ self.old.placed }
+        ensures placed { placement_of self.new ≡ placement_of self.old }
         ensures times { TimesEvent self.old self.new event.now reports.now }
         ensures frames { CountsFrames self.old.frames self.new.frames world.now event.now reports.now }
         ensures wholes { NotesWholes self.old self.new (map (metered_device N.device) boards.now) event.now reports.now }
@@ -242,7 +242,7 @@ impl Counter {
         reports: &[Report],
     )
         ensures counts { CountsEvent self.old.events self.new.events (Last from to dt word) reports.now }
-        ensures placed { self.new.placed ≡ self.old.placed }
+        ensures placed { placement_of self.new ≡ placement_of self.old }
         ensures times { TimesEvent self.old self.new (Last from to dt word) reports.now }
         ensures frames { CountsFrames self.old.frames self.new.frames world.now (Last from to dt word) reports.now }
         ensures wholes { NotesWholes self.old self.new (map (metered_device N.device) boards.now) (Last from to dt word)

@@ -5,7 +5,7 @@ ghost use Rattle.dg_base.specs.declared.events.Event.TheVariants.{Tick};
 ghost use Rattle.dg_rules.specs.Events.{mote_of, dt_of};
 ghost use Rattle.dg_events.specs.Kinds.{event_number};
 ghost use Rattle.dg_events.specs.Told.{nothing_told, told_by};
-ghost use Rattle.dg_count.specs.Runs.{CountsEvent, NotesWholes, TimesEvent};
+ghost use Rattle.dg_count.specs.Runs.{CountsEvent, NotesWholes, TimesEvent, placement_of};
 ghost use Rattle.dg_count.specs.Shown.{CountsFrames};
 
 use crate::counter::Counter;
@@ -33,7 +33,7 @@ impl Counter {
     )
         requires is { event.now ≡ Tick mote dt word }
         ensures counts { CountsEvent self.old.events self.new.events event.now reports.now }
-        ensures placed { self.new.placed ≡ self.old.placed }
+        ensures placed { placement_of self.new ≡ placement_of self.old }
         ensures times { TimesEvent self.old self.new event.now reports.now }
         ensures frames { CountsFrames self.old.frames self.new.frames world.now event.now reports.now }
         ensures wholes { NotesWholes self.old self.new (map (metered_device N.device) boards.now) event.now reports.now }
@@ -61,7 +61,7 @@ impl Counter {
         requires dt { dt ≡ dt_of event.now }
         requires quiet { told_by reports.now ≡ nothing_told }
         ensures counts { CountsEvent self.old.events self.new.events event.now reports.now }
-        ensures placed { self.new.placed ≡ self.old.placed }
+        ensures placed { placement_of self.new ≡ placement_of self.old }
         ensures times { TimesEvent self.old self.new event.now reports.now }
         ensures frames { CountsFrames self.old.frames self.new.frames world.now event.now reports.now }
         ensures wholes { NotesWholes self.old self.new (map (metered_device N.device) boards.now) event.now reports.now }
@@ -88,7 +88,7 @@ impl Counter {
         reports: &[Report],
     )
         ensures counts { CountsEvent self.old.events self.new.events (Tick mote dt word) reports.now }
-        ensures placed { self.new.placed ≡ self.old.placed }
+        ensures placed { placement_of self.new ≡ placement_of self.old }
         ensures times { TimesEvent self.old self.new (Tick mote dt word) reports.now }
         ensures frames { CountsFrames self.old.frames self.new.frames world.now (Tick mote dt word) reports.now }
         ensures wholes { NotesWholes self.old self.new (map (metered_device N.device) boards.now) (Tick mote dt word)
@@ -119,7 +119,7 @@ impl Counter {
         requires mote { mote ≡ mote_of event.now }
         requires dt { dt ≡ dt_of event.now }
         ensures counts { CountsEvent self.old.events self.new.events event.now reports.now }
-        ensures placed { self.new.placed ≡ self.old.placed }
+        ensures placed { placement_of self.new ≡ placement_of self.old }
         ensures times { TimesEvent self.old self.new event.now reports.now }
         ensures frames { CountsFrames self.old.frames self.new.frames world.now event.now reports.now }
         ensures wholes { NotesWholes self.old self.new (map (metered_device N.device) boards.now) event.now reports.now }

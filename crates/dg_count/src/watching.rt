@@ -1,13 +1,14 @@
 //! The watcher of a replay that counts what it is shown.
-ghost use Rattle.std.specs.Prelude.{◌≡◌, false, map};
+ghost use Rattle.std.specs.Prelude.{◌≡◌, false, None, length, map};
 ghost use Rattle.dg_meter.specs.Meters.{metered_device};
 ghost use Rattle.dg_events.specs.Frames.{is_hearing};
-ghost use Rattle.dg_count.specs.Runs.{CountsEvent, NotesWholes, TimesEvent, sight_of};
+ghost use Rattle.dg_count.specs.Runs.{CountsEvent, NotesWholes, TimesEvent, placement_of, sight_of};
 ghost use Rattle.dg_count.specs.Shown.{CountsFrames};
 
 use crate::counter::Counter;
 use crate::frame_counting::count_other;
 use crate::place::place_of;
+use crate::tallies::tallies_of;
 use dg_meter::Metered;
 use dg_nor::Nor;
 use dg_replay::Watcher;
@@ -27,7 +28,7 @@ impl Counter {
     )
         requires none { is_hearing event.now ≡ false }
         ensures counts { CountsEvent self.old.events self.new.events event.now reports.now }
-        ensures placed { self.new.placed ≡ self.old.placed }
+        ensures placed { placement_of self.new ≡ placement_of self.old }
         ensures times { TimesEvent self.old self.new event.now reports.now }
         ensures frames { CountsFrames self.old.frames self.new.frames world.now event.now reports.now }
         ensures wholes { NotesWholes self.old self.new (map (metered_device N.device) boards.now) event.now reports.now }
@@ -60,7 +61,14 @@ impl Counter {
 }
 
 impl<N: Nor> Watcher<Metered<N>> for Counter {
-    ghost saw = { λ counter initial. sight_of counter initial };
+    ghost use Rattle.dg_count.specs.Rests.{have_rested};
+
+    ghost saw = { λ counter initial now. sight_of counter initial now };
+
+    ghost running = { λ counter. counter.ended ≡ None };
+
+    ghost rests = { λ counter initial old new stores events rested seen.
+        (seen.0, seen.1, have_rested (placement_of counter) (length stores) old new events rested seen.2) };
 
     fn begun(&mut self, motes: u8) {
         self.costs.count = motes;
@@ -68,6 +76,7 @@ impl<N: Nor> Watcher<Metered<N>> for Counter {
 
     fn placed(&mut self, motes: u8, used: Option<u32>, boards: &[Metered<N>]) {
         self.placed = motes;
+        self.formatted = tallies_of(boards);
         let done = self.costs.place(motes, used, &self.wholes, boards);
         self.costs.unless(done);
         self.wholes.place(motes, used.is_none());

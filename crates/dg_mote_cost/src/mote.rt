@@ -17,8 +17,6 @@ pub struct MoteCost {
     pub no_image: u64,
     /// The successful starts that copied into program memory.
     pub starts_copied: u64,
-    /// The operations that formatted its chip.
-    pub format: Tally,
     /// Its chip's operations up to the last event in which it did more than to put a packet into a page.
     pub tally: Tally,
     pub cut_programs: [u64; REGIONS],
@@ -44,7 +42,6 @@ impl MoteCost {
             cut_restarts: 0,
             no_image: 0,
             starts_copied: 0,
-            format: Tally::none(),
             tally: Tally::none(),
             cut_programs: [0; REGIONS],
             cut_erases: [0; REGIONS],

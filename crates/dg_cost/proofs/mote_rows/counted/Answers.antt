@@ -31,6 +31,7 @@ returns c =
           c.times_until-times.ensures.times (motes.power m rows there);
       each = motes.each;
       frames = motes.frames;
+      flash = motes.flash;
       wholes = λ m rows there. (motes.moments m rows there).has;
       all_kept = c.in_ok-all.ensures.moments (subst (λ (xs : List Rows). SumsNoMoment xs) (sym c.deref.ensures.value) unsummed);
     })

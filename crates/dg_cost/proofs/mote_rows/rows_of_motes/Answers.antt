@@ -10,6 +10,9 @@ use Rattle.dg_cost.specs.EventRows.{HasCounts, HasRows}
 use Rattle.dg_cost.specs.TimeRows.{rows_of_power}
 use Rattle.dg_events.specs.FrameCounters.{no_frames, no_outside}
 use Rattle.dg_cost.specs.FrameRows.{HasFrameCounts}
+use Rattle.dg_meter.specs.declared.tally.Tally.{Tally}
+use Rattle.dg_count.specs.Chips.{no_tally}
+use Rattle.dg_cost.specs.FlashRows.{flash_run_rows}
 use Rattle.dg_cost.specs.MomentRows.{HasMoments}
 use Rattle.dg_cost.proofs.RowLemmas.{each_pushed}
 use Rattle.dg_cost.proofs.mote_rows.rows_of_motes.Goals as goal
@@ -27,7 +30,10 @@ loop-mote-preserved c =
     let power : HasRows (rows_of_power (slice_index_or c.args.times.now.motes i never_on) c.args.times.now.ms) table =
     subst (λ (u : Uptime). HasRows (rows_of_power u c.args.times.now.ms) table) c.at-uptime.ensures c.in_ok-rows.ensures.power in
     let frames : HasFrameCounts (slice_index_or c.args.counter.now.frames.motes i no_frames) (slice_index_or c.args.counter.now.frames.outside i no_outside) table =
-    c.in_ok-rows.ensures.frames in (
+    c.in_ok-rows.ensures.frames in
+    let flash : HasRows (flash_run_rows (slice_index_or c.args.counter.now.formatted i no_tally) (slice_index_or c.args.counter.now.settled i no_tally)) table =
+    subst (λ (t : Tally). HasRows (flash_run_rows t (slice_index_or c.args.counter.now.settled i no_tally)) table) c.tally_at-formatted.ensures
+    (subst (λ (t : Tally). HasRows (flash_run_rows c.tally_at-formatted.result t) table) c.tally_at-settled.ensures c.in_ok-rows.ensures.flash) in (
       ap length items ∙ length-append motes (rows ∷ []) ∙ ap (λ (n : ℕ). n + 1) before.0,
       each_pushed (λ (m : ℕ) (r : Rows). HasCounts (counts_at c.args.ended c.args.counter.now.events m) (table_of_rows r)) motes
           c.push.new.self.items rows i items before.0 before.1 counts,
@@ -35,6 +41,8 @@ loop-mote-preserved c =
           motes c.push.new.self.items rows i items before.0 before.2 power,
       each_pushed (λ (m : ℕ) (r : Rows). HasFrameCounts (slice_index_or c.args.counter.now.frames.motes m no_frames) (slice_index_or c.args.counter.now.frames.outside m no_outside) (table_of_rows r)) motes
           c.push.new.self.items rows i items before.0 before.3 frames,
-      each_pushed (λ (m : ℕ) (r : Rows). HasMoments m c.args.counter.now.wholes.moments r) motes c.push.new.self.items rows i items before.0 before.4
+      each_pushed (λ (m : ℕ) (r : Rows). HasRows (flash_run_rows (slice_index_or c.args.counter.now.formatted m no_tally) (slice_index_or c.args.counter.now.settled m no_tally)) (table_of_rows r))
+          motes c.push.new.self.items rows i items before.0 before.4 flash,
+      each_pushed (λ (m : ℕ) (r : Rows). HasMoments m c.args.counter.now.wholes.moments r) motes c.push.new.self.items rows i items before.0 before.5
           c.in_ok-rows.ensures.moments,
     )

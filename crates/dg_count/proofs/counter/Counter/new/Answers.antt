@@ -2,8 +2,8 @@ use Rattle.std.proofs.Common.{refl, sym, subst, arith}
 use Rattle.dg_moments.specs.Looking.{ReadsBoards}
 use Rattle.dg_count.proofs.counter.Counter.new.Goals as goal
 
-pub returns : goal.returns
-returns c initial reads = (
+pub returns-clause-seen : goal.returns-clause-seen
+returns-clause-seen c initial now reads = (
   subst (λ g. ReadsBoards g.items initial) (sym c.new-4.ensures.given) reads,
   record {
     counted = c.new.ensures;
@@ -17,4 +17,5 @@ returns c initial reads = (
     motes = refl;
     few = omega arith;
   },
+  λ m b lt there awake. absurd (omega (arith, lt)),
 )
