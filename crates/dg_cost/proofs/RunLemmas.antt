@@ -45,7 +45,7 @@ use Rattle.dg_count.specs.Runs.{CountedRun, CountedReplay}
 use Rattle.dg_count.specs.declared.costs.Costs.{Costs}
 use Rattle.dg_count.specs.declared.counter.Counter.{Counter}
 use Rattle.dg_count.specs.declared.place.EventPlace.{EventPlace}
-use Rattle.dg_cost.specs.EventRows.{HasRows, HasCounts, HasEvents, rows_of_events, rows_of_starts, rows_of_images, counts_of, and_ended}
+use Rattle.dg_cost.specs.EventRows.{HasRows, HasCounts, HasEvents, rows_of_events, rows_of_starts, rows_of_images, passing_counts, and_ended}
 use Rattle.dg_cost.specs.Counting.{IsCountOf, ended_of}
 use Rattle.dg_cost.specs.Costs.{IsEndOf, CountsRun, CountsReplay, IsText, CostWrote, Rehearsed, with_report}
 use Rattle.dg_cost.specs.declared.call.Form.{Form}
@@ -67,7 +67,7 @@ get_within (y ∷ xs) zero x there = omega arith
 get_within (y ∷ xs) (suc i) x there = let h = get_within xs i x there in omega arith
 
 listed : (c : EventCounter) (played : List Played) (m : ℕ) (tests : ℕ → Happened → Bool) (kinds : ℕ) (xs : List ℕ) → CountedRun c played
-    → AreCounts m tests played kinds xs → xs ≡ counts_of m tests kinds played
+    → AreCounts m tests played kinds xs → xs ≡ passing_counts m tests kinds played
 listed c played m tests kinds xs run are =
     fill_by_all (λ (k : ℕ). count_at m (tests k) played) xs kinds 0 are.long (λ k lt. are.each k lt ∙ run.exact m (tests k))
 
@@ -77,13 +77,13 @@ below_end n w lt = let is : n ≡ 0 * w + n = omega arith in ap (λ (j : ℕ). j
 up_small : (n : ℕ) → n ≤ most_events → up n ≡ n + 1
 up_small n few = below_end (n + 1) (2 ^ 64) (omega (arith, few))
 
-counted_few : (c : EventCounter) (played : List Played) (m k : ℕ) → CountedRun c played → slice_index (counts_of m has_kind 7 played) k ≤ most_events
+counted_few : (c : EventCounter) (played : List Played) (m k : ℕ) → CountedRun c played → slice_index (passing_counts m has_kind 7 played) k ≤ most_events
 counted_few c played m k run = elim (cases_lt k 7) [
   | inl lt ↦
       subst (λ (n : ℕ). n ≤ most_events) (sym (get_or-map-range_with_len (λ (j : ℕ). count_at m (has_kind j) played) 0 7 k k 0 lt (omega arith)))
       (run.few m (has_kind k))
   | inr ge ↦
-      let far : slice_index (counts_of m has_kind 7 played) k ≡ 0 = get_or_past (counts_of m has_kind 7 played) k 0
+      let far : slice_index (passing_counts m has_kind 7 played) k ≡ 0 = get_or_past (passing_counts m has_kind 7 played) k 0
       (omega (arith, ge, length-map-range_with_len (λ (j : ℕ). count_at m (has_kind j) played) 0 7)) in
       omega (arith, far)
 ]
@@ -91,12 +91,12 @@ counted_few c played m k run = elim (cases_lt k 7) [
 -- ---- with the event that ended the run
 
 ended_events : (e : EventCounter) (ended : Option EventPlace) (m : ℕ) (played : List Played) (c : EventCounts) → CountedRun e played
-    → c.events ≡ counts_of m has_kind 7 played → (with_ended ended m c).events ≡ and_ended ended m (counts_of m has_kind 7 played)
+    → c.events ≡ passing_counts m has_kind 7 played → (with_ended ended m c).events ≡ and_ended ended m (passing_counts m has_kind 7 played)
 ended_events e None m played c run is = is
 ended_events e (Some place) m played c run is = by (place.mote == m)
   where
     all : List ℕ
-    all = counts_of m has_kind 7 played
+    all = passing_counts m has_kind 7 played
 
     by : (b : Bool) → (cond b (record c { events = up_at place.kind c.events }) c).events ≡ cond b (set all place.kind (slice_index all place.kind + 1)) all
     by true =
@@ -132,8 +132,8 @@ mote_events e ended m played c table run are has =
     record {
       events = subst (λ (rows : List (List ℕ × ℕ)). HasRows rows table)
           (ap (λ (xs : List ℕ). rows_of_events xs d.refused d.cuts) events
-          ∙ ap (λ (xs : List ℕ). rows_of_events (and_ended ended m (counts_of m has_kind 7 played)) xs d.cuts) refused
-          ∙ ap (λ (n : ℕ). rows_of_events (and_ended ended m (counts_of m has_kind 7 played)) (counts_of m is_refused 11 played) n) cuts) has.events;
+          ∙ ap (λ (xs : List ℕ). rows_of_events (and_ended ended m (passing_counts m has_kind 7 played)) xs d.cuts) refused
+          ∙ ap (λ (n : ℕ). rows_of_events (and_ended ended m (passing_counts m has_kind 7 played)) (passing_counts m is_refused 11 played) n) cuts) has.events;
       starts = subst (λ (rows : List (List ℕ × ℕ)). HasRows rows table)
           (ap (λ (n : ℕ). rows_of_starts n d.by_order d.cut_by_power) power
           ∙ ap (λ (n : ℕ). rows_of_starts (count_at m is_start_by_power played) n d.cut_by_power) order

@@ -46,8 +46,8 @@ pub record HasCounts (c : EventCounts) (table : List (List ℕ × ℕ)) : Type 0
 -- ---- rows of a run
 
 -- how many events of a mote pass each of the first tests
-abbrev pub counts_of : (mote : ℕ) → (tests : ℕ → Happened → Bool) → (kinds : ℕ) → List Played → List ℕ
-counts_of mote tests kinds played = map (λ k. count_at mote (tests k) played) (range_with_len 0 kinds)
+abbrev pub passing_counts : (mote : ℕ) → (tests : ℕ → Happened → Bool) → (kinds : ℕ) → List Played → List ℕ
+passing_counts mote tests kinds played = map (λ k. count_at mote (tests k) played) (range_with_len 0 kinds)
 
 -- the event that found no image to start, and ended the run, counts by its kind at its mote
 abbrev pub and_ended : Option EventPlace → (mote : ℕ) → List ℕ → List ℕ
@@ -57,7 +57,7 @@ and_ended (Some place) mote counts =
 
 abbrev pub event_rows : Option EventPlace → (mote : ℕ) → List Played → List (List ℕ × ℕ)
 event_rows ended mote played =
-    rows_of_events (and_ended ended mote (counts_of mote has_kind 7 played)) (counts_of mote is_refused 11 played)
+    rows_of_events (and_ended ended mote (passing_counts mote has_kind 7 played)) (passing_counts mote is_refused 11 played)
     (count_at mote is_cut played)
 
 abbrev pub start_rows : (mote : ℕ) → List Played → List (List ℕ × ℕ)
@@ -66,7 +66,7 @@ start_rows mote played =
     (count_at mote is_cut_start_by_power played)
 
 abbrev pub image_rows : (mote : ℕ) → List Played → List (List ℕ × ℕ)
-image_rows mote played = rows_of_images (counts_of mote is_start_of images played)
+image_rows mote played = rows_of_images (passing_counts mote is_start_of images played)
 
 -- The table of a mote has the rows of the events that were played there, and of the one that ended the run, if there is one.
 pub record HasEvents (ended : Option EventPlace) (mote : ℕ) (played : List Played) (table : List (List ℕ × ℕ)) : Type 0 where
