@@ -2,7 +2,7 @@
 #![tactic(auto)]
 
 use dg_base::{MOST_MOTES, Status, StdSink, StdSource};
-use dg_cost::{Form, cost};
+use dg_cost::{Form, cost_for_program};
 use dg_cost_text::{Model, ModelFault, read_model};
 use dg_meter::Metered;
 use dg_nor::Board;
@@ -321,7 +321,7 @@ fn tell_cost(rt: &HostRuntime, _guard: &Guard, form: &Form, files: &Vec<String>)
         Some(mut boards) => {
             let mut input = StdSource::new(rt.stdin());
             let mut out = StdSink::new(rt.stdout());
-            cost(rt.alloc(), form, &mut input, &mut out, &mut boards)
+            cost_for_program(rt.alloc(), form, &mut input, &mut out, &mut boards)
         }
     };
     tell_cause(rt, status)

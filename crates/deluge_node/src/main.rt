@@ -11,7 +11,7 @@ use dg_base::Status;
 use dg_messages::{Input, Output, Told};
 use dg_net::{MoteLink, SystemClock};
 use dg_nor::{Board, CHIP_SIZE};
-use dg_single::serve_mote_of_network;
+use dg_single::serve_for_program;
 use std::alloc::AllocError;
 use std::env::Args;
 use std::fs::File;
@@ -88,7 +88,7 @@ fn run(rt: &HostRuntime, _guard: &Guard, asked: &Asked) -> Result<Status, AllocE
     let mut watch = SystemClock::scaled(rt, asked.scale);
     tell_scale(rt, asked.scale);
     tell_waiting(rt);
-    let status = serve_mote_of_network(
+    let status = serve_for_program(
         rt.alloc(),
         &mut input,
         asked.id,

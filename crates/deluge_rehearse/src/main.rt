@@ -15,7 +15,7 @@ use dg_input::{ReadStop, read_whole};
 use dg_messages::{Told, push_sentence};
 use dg_netcfg::{NetProfile, ProfileFault, read_profile};
 use dg_nor::Board;
-use dg_rehearse::{Ending, Plan, Rehearsal, Stop, rehearse, write_trial};
+use dg_rehearse::{Ending, Plan, Rehearsal, Stop, rehearse_for_program, write_trial_for_program};
 use std::alloc::AllocError;
 use std::env;
 use std::fs::File;
@@ -222,7 +222,7 @@ fn play(rt: &HostRuntime, profile: &NetProfile, plan: &Plan) -> Status
     let Ok(mut boards) = boards(rt) else {
         return fail(rt, MEMORY, Status::Memory);
     };
-    match rehearse(rt.alloc(), profile, plan, &mut boards) {
+    match rehearse_for_program(rt.alloc(), profile, plan, &mut boards) {
         Ok(rehearsal) => told(rt, &rehearsal),
         Err(stop) => stopped(rt, stop),
     }
@@ -248,7 +248,7 @@ fn run_trial(rt: &HostRuntime, trial: &Trial) -> Status {
     let Ok(mut boards) = boards(rt) else {
         return fail(rt, MEMORY, Status::Memory);
     };
-    match write_trial(
+    match write_trial_for_program(
         rt.alloc(),
         trial.motes,
         trial.pages,

@@ -28,7 +28,7 @@ impl Runner for Deluge {
         link: &mut FailLink,
         clock: &mut StepClock,
     ) -> Status {
-        dg_cli::run(alloc, words, input, out, boards, link, clock)
+        dg_cli::run_for_program(alloc, words, input, out, boards, link, clock)
     }
 }
 
@@ -43,7 +43,7 @@ impl Commands for Deluge {
         link: &mut L,
         clock: &mut C,
     ) -> Status {
-        dg_cli::run(alloc, words, input, out, boards, link, clock)
+        dg_cli::run_for_program(alloc, words, input, out, boards, link, clock)
     }
 }
 

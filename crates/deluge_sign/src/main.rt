@@ -8,7 +8,7 @@ use dg_base::{Sink, Source, Status, WriteFailed};
 use dg_input::{ReadStop, read_whole};
 use dg_messages::{Input, Output};
 use dg_nor::Board;
-use dg_sign_tool::{misuse, receive, text, verify};
+use dg_sign_tool::{misuse, receive_for_program, text, verify};
 use dg_signed::{
     Asked, Command, ImageName, KeyFiles, Release, SignedImage, Unsigned, asked, signed_image,
 };
@@ -137,7 +137,7 @@ fn receive_signed<S: Source, K: Sink>(
     let Some(mut boards) = board(rt, chip.as_str()) else {
         return Ended::of(Status::Memory);
     };
-    let status = receive(alloc, found, name, input, out, &mut boards);
+    let status = receive_for_program(alloc, found, name, input, out, &mut boards);
     let fault = match boards.first() {
         Some(board) => board.file_fault(),
         None => None,

@@ -7,6 +7,8 @@ mod command;
 mod dispatch;
 mod help;
 mod migrate;
+mod program;
 
 pub use command::run;
 pub use dg_command::flash_names;
+pub use program::run_for_program;

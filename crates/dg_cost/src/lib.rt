@@ -11,5 +11,7 @@ mod frame_rows;
 mod looking;
 mod moment_rows;
 mod mote_rows;
+mod program;
 
 pub use call::{Form, cost};
+pub use program::cost_for_program;

@@ -2,6 +2,7 @@
 ghost use Rattle.std.specs.Prelude.{◌≡◌, ◌≤◌, ◌∷◌, ◌++◌, [], map, OnOk};
 ghost use Rattle.std.specs.List.{AllByRecursion, flat_map};
 ghost use Rattle.dg_base.specs.declared.events.Event.TheVariants.{Inject};
+ghost use Rattle.dg_object.specs.Sizes.{fewest_pages, most_pages};
 ghost use Rattle.dg_script.specs.Sizes.{most_motes};
 ghost use Rattle.dg_trial.specs.Schedule.{resets};
 ghost use Rattle.dg_rehearse.specs.Rehearsed.{step_lines, written_lines};
@@ -28,8 +29,8 @@ pub fn write_trial<N: Nor>(
 ) -> Result<Vec<u8>, Stop>
     requires some { 2 ≤ motes }
     requires few { motes ≤ most_motes }
-    requires some_pages { 2 ≤ pages }
-    requires few_pages { pages ≤ 65 }
+    requires some_pages { fewest_pages ≤ pages }
+    requires few_pages { pages ≤ most_pages }
     // The script has the steps of the trial in their order: wherever the trial leads from its last disturbance, the script does.
     // Each other answer comes with its cause, and what it leaves.
     ensures { TrialWriteEnds result motes pages seed (map N.device boards.old.items) (map N.device boards.new.items) }

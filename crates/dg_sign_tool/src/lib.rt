@@ -9,10 +9,13 @@ ghost use Rattle.dg_outside.specs.Outside.{Outside, output_of, with_input, with_
 ghost use Rattle.dg_signed.specs.Finding.{line_of_release};
 ghost use Rattle.dg_sign_tool.specs.Verbs.{ReceiveSigned, found_line, found_status, unsigned_line, unsigned_status};
 
+mod program;
+
 use dg_base::{Sink, Source, Status, WriteFailed};
 use dg_nor::Nor;
 use dg_sign::signed_line;
 use dg_signed::{ImageName, Release, SignedImage, Unsigned};
+pub use program::receive_for_program;
 use std::alloc::{AllocError, Global};
 
 // Writes a line, and ends with this status.
