@@ -1,24 +1,9 @@
--- Reads that follow one another, and reads before an act.
-use Rattle.std.proofs.Common.{◌≡◌, ℕ, ◌+◌, ◌-◌, ◌≤◌, Result, Ok, Err, refl, subst, ◌∙◌, arith}
+-- Reads before an act.
+use Rattle.std.proofs.Common.{◌≡◌, ℕ, ◌+◌, ◌-◌, ◌≤◌, subst, arith}
 use Rattle.std.specs.Prelude.{⊤}
-use Rattle.dg_nor.specs.declared.device.Stopped.{Stopped}
 use Rattle.dg_nor.specs.Device.{Device, Ran, Halts, Halted}
-use Rattle.dg_nor.specs.Reads.{Looked, ReadStopped, ReadEnds, ActStopped}
-use Rattle.dg_nor.proofs.DeviceLemmas.{Ran-none, Ran_then, Halts_first, Halts_second}
-
-pub Looked-none : (d : Device) → Looked d d
-Looked-none d = record { same_image = refl; ran = Ran-none d }
-
-pub Looked_then : {a b c : Device} → Looked a b → Looked b c → Looked a c
-Looked_then p q = record { same_image = q.same_image ∙ p.same_image; ran = Ran_then p.ran q.ran }
-
-pub ReadStopped_after : {a b c : Device} → Looked a b → ReadStopped b c → ReadStopped a c
-ReadStopped_after p q = record { same_image = q.same_image ∙ p.same_image; halts = Halts_second p.ran q.halts }
-
--- how a read ends after others that were done
-pub read_after : {T : Type 0} (r : Result T Stopped) (a b c : Device) → Looked a b → ReadEnds r b c → ReadEnds r a c
-read_after (Ok x) a b c p q = Looked_then p q
-read_after (Err e) a b c p q = ReadStopped_after p q
+use Rattle.dg_nor.specs.Reads.{ActStopped}
+use Rattle.dg_nor.proofs.DeviceLemmas.{Ran_then, Halts_first, Halts_second}
 
 pub ActStopped-halts : {n d : ℕ} {a b : Device} → Halts n d a b → ActStopped a b
 ActStopped-halts h = record { stopped = h.stopped; cause = h.cause; unchanged = h.unchanged; faults = h.faults; references = h.references }

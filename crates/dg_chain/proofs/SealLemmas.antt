@@ -11,7 +11,7 @@ use Rattle.dg_slot.specs.Jobs.{IsJob, Packets, seal_trail, Seals, SlotStops}
 use Rattle.dg_slot.specs.declared.states.OpenSlot.{OpenSlot}
 use Rattle.dg_slot.specs.declared.states.PageJob.{PageJob}
 use Rattle.dg_slot.specs.declared.states.Sealing.TheVariants as sealing
-use Rattle.dg_slot.proofs.ReadLemmas.{Looked_then}
+use Rattle.dg_nor.proofs.ReadLemmas.{Looked_then}
 use Rattle.dg_slot.proofs.SealLemmas.{seal_unread}
 use Rattle.dg_chain.specs.Checking.{is_same, field_of}
 use Rattle.dg_chain.specs.Answers.{chained_trail, SealsChained}

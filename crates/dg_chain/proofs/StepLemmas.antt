@@ -18,7 +18,7 @@ use Rattle.dg_chain.specs.Checking.{field_of, is_same, Break, first_break, paylo
 use Rattle.dg_chain.specs.Answers.{ChainAnswers, ChainEnds, Walks}
 use Rattle.dg_nor.specs.Device.{Device}
 use Rattle.dg_nor.specs.Reads.{Looked}
-use Rattle.dg_slot.proofs.ReadLemmas.{Looked_then, ReadStopped_after}
+use Rattle.dg_nor.proofs.ReadLemmas.{Looked_then, ReadStopped_after}
 use Rattle.dg_chain.specs.declared.checking.ChainFault.{ChainFault}
 use Rattle.dg_chain.specs.declared.checking.ChainFault.TheVariants as fault
 use Rattle.dg_chain.proofs.WalkLemmas.{named, own}

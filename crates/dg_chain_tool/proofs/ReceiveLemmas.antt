@@ -37,7 +37,7 @@ use Rattle.dg_tool.specs.Verbs.{have_text}
 use Rattle.dg_tool.specs.Done.{Completed, NeedsBoard, NeedsInput}
 use Rattle.dg_tool.specs.inner.OneBoard.{OnStore}
 use Rattle.dg_tool.proofs.OutcomeLemmas.{made_store, refused_store, stopped_store, halts_stopped}
-use Rattle.dg_volume.proofs.ReadLemmas.{Looked-none}
+use Rattle.dg_nor.proofs.ReadLemmas.{Looked-none}
 use Rattle.dg_tool.proofs.TrailLemmas.{looked_same}
 use Rattle.dg_words.specs.Counts.{Rose}
 use Rattle.dg_outside.specs.Outside.{InputState}

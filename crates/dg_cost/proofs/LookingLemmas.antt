@@ -3,7 +3,7 @@ use Rattle.std.proofs.Common.{◌≡◌, ℕ, zero, suc, ◌+◌, ◌<◌, ◌�
 use Rattle.std.specs.Prelude.{slice_get, Option, Some, None, Result, Err, IsErrOf}
 use Rattle.std.specs.Option.{option_flatten}
 use Rattle.std.proofs.lemmas.Bool.{cases_lt}
-use Rattle.dg_nor.specs.Device.{Device, Interrupted}
+use Rattle.dg_nor.specs.Device.{Device, WorkedOrStopped}
 use Rattle.dg_nor.specs.Fuse.{beneath_of}
 use Rattle.dg_nor.specs.Reads.{Looked, ReadStopped}
 use Rattle.dg_volume.specs.Sizes.{images}
@@ -102,16 +102,16 @@ reads_all given boards i all first m d at = first m d (omega (arith, get_within 
 
 -- one more board was read
 pub board_read : {N : Type 0} (f : N → Device) (n : ℕ) (old new : List Device) (items : List N) (d x e : N) → ReadTo n old (map f items) → n < length items
-    → d ≡ get_or items n x → new ≡ map f (set items n e) → Interrupted 0 (beneath_of (f d)) (beneath_of (f e)) → (f e).image ≡ (f d).image
+    → d ≡ get_or items n x → new ≡ map f (set items n e) → WorkedOrStopped 0 (beneath_of (f d)) (beneath_of (f e)) → (f e).image ≡ (f d).image
     → ReadTo (n + 1) old new
 board_read {N} f n old new items d x e to there was is kept same =
     subst (λ (ds : List Device). ReadTo (n + 1) old ds) (sym is)
     (read_more n old (map f items) (map f (set items n e)) (f (get_or items n x)) (f e) to (used_at f items n x e there)
-    (subst (λ (y : N). Interrupted 0 (beneath_of (f y)) (beneath_of (f e))) was kept) (same ∙ ap (λ (y : N). (f y).image) was))
+    (subst (λ (y : N). WorkedOrStopped 0 (beneath_of (f y)) (beneath_of (f e))) was kept) (same ∙ ap (λ (y : N). (f y).image) was))
 
 -- a mount that failed only read
 pub mount_failed : (r : Result Volume MountFault) (e : MountFault) (a b : Device) → r ≡ Err e → (IsErrOf r NotAVolume → Looked a b)
-    → (IsErrOf r Stopped → ReadStopped a b) → Interrupted 0 (beneath_of a) (beneath_of b)
+    → (IsErrOf r Stopped → ReadStopped a b) → WorkedOrStopped 0 (beneath_of a) (beneath_of b)
 mount_failed r NotAVolume a b is looked stopped = worked_ran (looked is).ran
 mount_failed r Stopped a b is looked stopped = worked_halts 0 (stopped is).halts
 

@@ -2,7 +2,7 @@
 ghost use Rattle.std.specs.Prelude.{◌≡◌, map, IfOk};
 ghost use Rattle.dg_meter.specs.Meters.{metered_device};
 ghost use Rattle.dg_moments.specs.Looking.{ReadsBoard, ReadsBoards};
-ghost use Rattle.dg_nor.specs.Device.{Interrupted, beneath_of};
+ghost use Rattle.dg_nor.specs.Device.{WorkedOrStopped, beneath_of};
 ghost use Rattle.dg_world.specs.Applied.{SameBoards};
 
 use dg_count::Costs;
@@ -32,7 +32,7 @@ pub fn look<N: Nor>(
 fn look_at<N: Nor>(board: &mut Metered<N>) -> Option<Given>
     ensures given { ReadsBoard result (metered_device N.device board.new) }
     ensures same_image { (metered_device N.device board.new).image ≡ (metered_device N.device board.old).image }
-    ensures read { Interrupted 0 (beneath_of (metered_device N.device board.old))
+    ensures read { WorkedOrStopped 0 (beneath_of (metered_device N.device board.old))
         (beneath_of (metered_device N.device board.new)) }
 {
     match Volume::mount(board) {

@@ -6,7 +6,7 @@ use Rattle.dg_nor.specs.Chip.{blank}
 use Rattle.dg_inspect.proofs.FilledLemmas.{filled}
 use Rattle.dg_nor.specs.Device.{Device}
 use Rattle.dg_nor.specs.Reads.{Looked, ReadStopped}
-use Rattle.dg_slot.proofs.ReadLemmas.{Looked_then, ReadStopped_after}
+use Rattle.dg_nor.proofs.ReadLemmas.{Looked_then, ReadStopped_after}
 use Rattle.dg_inspect.specs.Seen.{LookEnds}
 use Rattle.dg_inspect.specs.declared.seen.LookFault.{LookFault}
 use Rattle.dg_inspect.specs.declared.seen.LookFault.TheVariants as faults

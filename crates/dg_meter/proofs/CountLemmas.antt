@@ -71,12 +71,15 @@ meter_ran {n} {a} {b} s t awake rises ran = record {
 }
 
 -- a whole sector was programmed, which is not counted
-pub meter_refilled : {a b : Device} (s t : Tally) → t ≡ s → Refilled a b → Refilled (meter a s) (meter b t)
-meter_refilled s t same r = record {
+pub meter_refilled : {a b : Device} (s t : Tally) → a.stopped ≡ false → t ≡ s → Refilled a b → Refilled (meter a s) (meter b t)
+meter_refilled {a} s t awake same r = record {
   left = r.left;
   stopped = r.stopped;
+  unchanged = λ stopped. absurd (both_ways a.stopped awake stopped);
+  blown = r.blown;
   faults = r.faults;
   taken = r.taken;
   references = r.references;
   made = subst (λ (u : Tally). PartsRise 0 (counts_of s) (counts_of u)) (sym same) (PartsRise-none (counts_of s));
+  beneath = r.beneath;
 }

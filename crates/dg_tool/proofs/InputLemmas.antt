@@ -10,7 +10,7 @@ use Rattle.dg_ihex.specs.declared.faults.HexFileFault.{HexFileFault}
 use Rattle.dg_nor.specs.Device.{Device}
 use Rattle.dg_nor.specs.Reads.{Looked}
 use Rattle.dg_volume.specs.Store.{Store}
-use Rattle.dg_volume.proofs.ReadLemmas.{Looked-none}
+use Rattle.dg_nor.proofs.ReadLemmas.{Looked-none}
 use Rattle.dg_outside.specs.Outside.{InputState}
 use Rattle.dg_end.specs.Lines.{Outcome, text_outcome}
 use Rattle.dg_end.specs.declared.ends.End.{End}

@@ -7,7 +7,7 @@ use Rattle.dg_volume.specs.Store.{Store}
 use Rattle.dg_volume.specs.Stands.{Stands, IsVolume, IsNoVolume}
 use Rattle.dg_volume.specs.declared.volume.MountFault.{MountFault}
 use Rattle.dg_volume.specs.declared.volume.MountFault.TheVariants as mount
-use Rattle.dg_volume.proofs.ReadLemmas.{Looked_then}
+use Rattle.dg_nor.proofs.ReadLemmas.{Looked_then}
 use Rattle.dg_end.specs.Lines.{Outcome, text_outcome}
 use Rattle.dg_end.specs.Conversions.{end_of_mount}
 use Rattle.dg_end.specs.declared.ends.End.{End}

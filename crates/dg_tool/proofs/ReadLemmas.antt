@@ -2,7 +2,7 @@
 use Rattle.std.proofs.Common.{◌≡◌, Result, Ok, Err, IsErrAnd, sym, subst}
 use Rattle.dg_nor.specs.Device.{Device}
 use Rattle.dg_nor.specs.Reads.{Looked, ReadStopped}
-use Rattle.dg_volume.proofs.ReadLemmas.{Looked_then, Looked_stopped}
+use Rattle.dg_nor.proofs.ReadLemmas.{Looked_then, ReadStopped_after}
 use Rattle.dg_end.specs.declared.ends.End.{End}
 use Rattle.dg_end.specs.declared.ends.End.TheVariants as ends
 use Rattle.dg_tool.specs.Endings.{VerbEnding}
@@ -15,7 +15,7 @@ page_err T e = Err e
 
 fails_after : (T U : Type 0) (e : End) (a m b : Device) → Looked a m → ReadsOn (page_err T e) m b → ReadsOn (page_err U e) a b
 fails_after T U ends.Memory a m b l h = Looked_then l h
-fails_after T U ends.FlashFault a m b l h = Looked_stopped l h
+fails_after T U ends.FlashFault a m b l h = ReadStopped_after l h
 fails_after T U end a m b l h = absurd h
 
 pub reads_after : {T : Type 0} (r : Result T End) (a m b : Device) → Looked a m → ReadsOn r m b → ReadsOn r a b

@@ -14,7 +14,7 @@ use Rattle.dg_volume.specs.declared.volume.MountFault.{MountFault}
 use Rattle.dg_volume.specs.declared.volume.MountFault.TheVariants as mount
 use Rattle.dg_volume.specs.declared.volume.OrderFault.{OrderFault}
 use Rattle.dg_volume.specs.declared.volume.OrderFault.TheVariants as order_fault
-use Rattle.dg_volume.proofs.ReadLemmas.{Looked-none}
+use Rattle.dg_nor.proofs.ReadLemmas.{Looked-none}
 use Rattle.dg_boot.proofs.ReadLemmas.{ran_after}
 use Rattle.dg_boot.proofs.BootLemmas.{read_stops, stops_looked}
 use Rattle.dg_end.specs.Lines.{Outcome}

@@ -1,24 +1,15 @@
 -- Reads that follow one another.
-use Rattle.std.proofs.Common.{◌≡◌, Result, Ok, Err, IsErrAnd, refl, sym, subst, ◌∙◌}
+use Rattle.std.proofs.Common.{◌≡◌, Result, Ok, Err, IsErrAnd, sym, subst}
 use Rattle.dg_nor.specs.Device.{Device}
-use Rattle.dg_nor.specs.Reads.{Looked, ReadStopped}
-use Rattle.dg_nor.proofs.DeviceLemmas.{Ran-none, Ran_then, Halts_second}
+use Rattle.dg_nor.specs.Reads.{Looked}
+use Rattle.dg_nor.proofs.ReadLemmas.{Looked_then, ReadStopped_after}
 use Rattle.dg_volume.specs.Reading.{MountEnds}
 use Rattle.dg_volume.specs.declared.volume.MountFault.{MountFault}
 use Rattle.dg_volume.specs.declared.volume.MountFault.TheVariants as mount
 
-pub Looked-none : (d : Device) → Looked d d
-Looked-none d = record { same_image = refl; ran = Ran-none d }
-
-pub Looked_then : {a b c : Device} → Looked a b → Looked b c → Looked a c
-Looked_then p q = record { same_image = q.same_image ∙ p.same_image; ran = Ran_then p.ran q.ran }
-
-pub Looked_stopped : {a b c : Device} → Looked a b → ReadStopped b c → ReadStopped a c
-Looked_stopped p q = record { same_image = q.same_image ∙ p.same_image; halts = Halts_second p.ran q.halts }
-
 failed_after : (T U : Type 0) (e : MountFault) (a b c : Device) → Looked a b → MountEnds {T = T} (Err e) b c → MountEnds {T = U} (Err e) a c
 failed_after T U mount.NotAVolume a b c looked ends = Looked_then looked ends
-failed_after T U mount.Stopped a b c looked ends = Looked_stopped looked ends
+failed_after T U mount.Stopped a b c looked ends = ReadStopped_after looked ends
 
 -- a mount that failed after reads
 pub mount_after : {T U : Type 0} (r : Result U MountFault) (q : Result T MountFault) (e : MountFault) (a b c : Device) → IsErrAnd r (λ f. f ≡ e) → q ≡ Err e → Looked a b → MountEnds q b c → MountEnds r a c

@@ -1,7 +1,7 @@
 -- Boards that go on.
 use Rattle.std.proofs.Common.{◌≡◌, ℕ, ◌<◌, List, length, get_or, refl, sym, ap, ◌∙◌, subst, arith}
 use Rattle.std.proofs.lemmas.Option.{slice_get-get_or, slice_get_within}
-use Rattle.dg_nor.specs.Device.{Device, Ran, Halts, Interrupted, MadeMore}
+use Rattle.dg_nor.specs.Device.{Device, Ran, Halts, WorkedOrStopped, MadeMore}
 use Rattle.dg_nor.specs.Fuse.{beneath_of}
 use Rattle.dg_nor.specs.Reads.{ReadStopped}
 use Rattle.dg_nor.specs.Trail.{operations}
@@ -33,11 +33,11 @@ AreSteady_then old mid new count first second = λ m a b here there.
 -- ---- the operations that were made
 
 -- those of a device that ran
-pub worked_ran : {n : ℕ} {a b : Device} → Ran n a b → Interrupted n (beneath_of a) (beneath_of b)
+pub worked_ran : {n : ℕ} {a b : Device} → Ran n a b → WorkedOrStopped n (beneath_of a) (beneath_of b)
 worked_ran r = record { endures = Endures_ran r; made = λ awake. r.made }
 
 -- a device that stopped
-pub worked_halts : {n done : ℕ} (k : ℕ) {a b : Device} → Halts n done a b → Interrupted k (beneath_of a) (beneath_of b)
+pub worked_halts : {n done : ℕ} (k : ℕ) {a b : Device} → Halts n done a b → WorkedOrStopped k (beneath_of a) (beneath_of b)
 worked_halts k {a} {b} h = record { endures = Endures_halts h; made = λ awake. absurd (both_ways b.stopped awake h.stopped) }
 
 -- all those of an event

@@ -4,7 +4,7 @@ use Rattle.std.specs.Prelude.{◌||◌, ◌&&◌, not, if◌then◌else◌, ◌�
 use Rattle.std.proofs.lemmas.Bool.{lt-leb, le-leb, both_ways}
 use Rattle.std.proofs.lemmas.Option.{same_Some}
 use Rattle.std.specs.Borrow.{GName}
-use Rattle.dg_nor.specs.Device.{Device, Beneath, Endures, MadeMore, Worked, Interrupted, BeneathWorked, BeneathInterrupted, fired_now, Ran, Halts, Halted, more}
+use Rattle.dg_nor.specs.Device.{Device, Beneath, Endures, MadeMore, Worked, WorkedOrStopped, BeneathWorked, BeneathWorkedOrStopped, fired_now, Ran, Halts, Halted, more}
 use Rattle.dg_nor.specs.Fuse.{beneath_of, inner_of, fused_device}
 use Rattle.dg_nor.specs.declared.fuse.Fused.{Fused}
 use Rattle.dg_nor.specs.Trail.{operations, last, MayLeave}
@@ -68,8 +68,8 @@ pub record IsFused (cut : PowerCut) (a b x y : Device) : Type 0 where
 worked_by : (n : ℕ) (a b : Beneath) (x y : Option Beneath) → x ≡ Some a → y ≡ Some b → BeneathWorked n x y → Worked n a b
 worked_by n a b x y ex ey h = subst (λ (o : Option Beneath). IsSomeAnd o (Worked n a)) ey (subst (λ (o : Option Beneath). BeneathWorked n o y) ex h)
 
-interrupted_by : (n : ℕ) (a b : Beneath) (x y : Option Beneath) → x ≡ Some a → y ≡ Some b → BeneathInterrupted n x y → Interrupted n a b
-interrupted_by n a b x y ex ey h = subst (λ (o : Option Beneath). IsSomeAnd o (Interrupted n a)) ey (subst (λ (o : Option Beneath). BeneathInterrupted n o y) ex h)
+interrupted_by : (n : ℕ) (a b : Beneath) (x y : Option Beneath) → x ≡ Some a → y ≡ Some b → BeneathWorkedOrStopped n x y → WorkedOrStopped n a b
+interrupted_by n a b x y ex ey h = subst (λ (o : Option Beneath). IsSomeAnd o (WorkedOrStopped n a)) ey (subst (λ (o : Option Beneath). BeneathWorkedOrStopped n o y) ex h)
 
 not_reached : (cut : PowerCut) (n : ℕ) (a b x y : Device) → IsFused cut a b x y → Ran n x y → nat_le cut.after n ≡ false
 not_reached cut n a b x y f r =

@@ -7,7 +7,7 @@ use Rattle.std.proofs.lemmas.List.{length-map}
 use Rattle.std.proofs.lemmas.List.Concat.{flat_map-append}
 use Rattle.std.proofs.lemmas.List.Elements.{filter_map-append}
 use Rattle.std.proofs.lemmas.Option.{slice_get-get_or, get_or_from_slice_get}
-use Rattle.dg_nor.specs.Device.{Device, Endures, MadeMore, Interrupted}
+use Rattle.dg_nor.specs.Device.{Device, Endures, MadeMore, WorkedOrStopped}
 use Rattle.dg_nor.specs.Fuse.{beneath_of}
 use Rattle.dg_nor.specs.Reads.{ReadStopped}
 use Rattle.dg_nor.proofs.DeviceLemmas.{Endures-same, MadeMore-none}
@@ -110,7 +110,7 @@ read_none ds = record {
   none_made = λ m a b here there awake. subst (λ (x : Device). MadeMore 0 a.made x.made) (same_some a b (sym here ∙ there)) (MadeMore-none a.made);
 }
 
-pub read_more : (n : ℕ) (old now new : List Device) (d e : Device) → ReadTo n old now → Used n now new d e → Interrupted 0 (beneath_of d) (beneath_of e) → e.image ≡ d.image → ReadTo (n + 1) old new
+pub read_more : (n : ℕ) (old now new : List Device) (d e : Device) → ReadTo n old now → Used n now new d e → WorkedOrStopped 0 (beneath_of d) (beneath_of e) → e.image ≡ d.image → ReadTo (n + 1) old new
 read_more n old now new d e to used kept same =
     record {
       first = first_more n old now new d e to.first used kept.endures;
@@ -191,5 +191,5 @@ read_at motes n x within at = at ∙ sym (get_or_from_slice_get motes n (get_or 
 pub boards_there : {N : Type 0} (f : N → Device) (old now : List N) (v : World) (w : RuleWorld) (n : ℕ) → length now ≡ length old → IsWorld v (map f old) w → n < length v.motes.items → n < length now
 boards_there f old now v w n same is within = omega (arith, within, same, is.motes, is.boards_enough, length-map old f)
 
-pub read_endures : (a b : Device) → ReadStopped a b → Interrupted 0 (beneath_of a) (beneath_of b)
+pub read_endures : (a b : Device) → ReadStopped a b → WorkedOrStopped 0 (beneath_of a) (beneath_of b)
 read_endures a b s = worked_halts 0 s.halts

@@ -2,7 +2,7 @@
 use Rattle.std.proofs.Common.{◌≡◌, ◌≢◌, ℕ, zero, suc, ◌+◌, ◌<◌, ◌≤◌, inl, inr, false, List, [], ◌∷◌, length, refl, ap, sym, ◌∙◌, subst, arith}
 use Rattle.std.specs.Prelude.{Some, Result, Err, slice_get}
 use Rattle.std.proofs.lemmas.Bool.{cases_eq}
-use Rattle.dg_nor.specs.Device.{Device, Interrupted}
+use Rattle.dg_nor.specs.Device.{Device, WorkedOrStopped}
 use Rattle.dg_nor.specs.Fuse.{beneath_of}
 use Rattle.dg_nor.specs.Reads.{ReadStopped}
 use Rattle.dg_volume.specs.Store.{Store}
@@ -25,7 +25,7 @@ pub record AreMounted (n : ℕ) (old new : List Device) : Type 0 where
   pub calm : AreSteady old new
 
 -- one more board was mounted
-pub mounted_more : (n : ℕ) (old now new : List Device) (d e : Device) → AreMounted n old now → Used n now new d e → Interrupted 0 (beneath_of d) (beneath_of e) → e.image ≡ d.image → d.stopped ≡ false → IsSteady d e
+pub mounted_more : (n : ℕ) (old now new : List Device) (d e : Device) → AreMounted n old now → Used n now new d e → WorkedOrStopped 0 (beneath_of d) (beneath_of e) → e.image ≡ d.image → d.stopped ≡ false → IsSteady d e
     → IsVolume e.image → AreMounted (n + 1) old new
 mounted_more n old now new d e to used kept same awake stays volume =
     record {

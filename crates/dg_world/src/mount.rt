@@ -1,6 +1,6 @@
 //! Mounting: the boards of motes are used as they are.
 ghost use Rattle.std.specs.Prelude.{◌≡◌, ◌<◌, ◌≤◌, ℕ, List, false, map, length, slice_get, Some, Ok, Err, OnOk, IsErrOf};
-ghost use Rattle.dg_nor.specs.Device.{Device, Interrupted};
+ghost use Rattle.dg_nor.specs.Device.{Device, WorkedOrStopped};
 ghost use Rattle.dg_nor.specs.Fuse.{beneath_of};
 ghost use Rattle.dg_nor.specs.Reads.{ReadStopped};
 ghost use Rattle.dg_volume.specs.Store.{Store};
@@ -58,7 +58,7 @@ fn mount_board<N: Nor>(nor: &mut N) -> Result<(), MountFault>
     ensures stopped { IsErrOf result MountFault.Stopped → ReadStopped (N.device nor.old) (N.device nor.new) }
     ensures same_image { (N.device nor.new).image ≡ (N.device nor.old).image }
     // it is stopped only if it was before, or if its count rose, and if it is not, nothing was made on it
-    ensures endures { Interrupted 0 (beneath_of (N.device nor.old)) (beneath_of (N.device nor.new)) }
+    ensures endures { WorkedOrStopped 0 (beneath_of (N.device nor.old)) (beneath_of (N.device nor.new)) }
 {
     match Volume::mount(nor) {
         Ok(_) => Ok(()),

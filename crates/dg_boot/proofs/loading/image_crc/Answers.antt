@@ -9,7 +9,7 @@ use Rattle.dg_object.specs.Object.{pages_for}
 use Rattle.dg_nor.specs.Sizes.{sectors, sector_size}
 use Rattle.dg_slot.specs.Layout.{page_size, most_pages, program_sector}
 use Rattle.dg_slot.specs.Pages.{page_in}
-use Rattle.dg_boot.proofs.ReadLemmas.{Looked_then}
+use Rattle.dg_nor.proofs.ReadLemmas.{Looked_then}
 use Rattle.dg_boot.proofs.ContentLemmas.{page_summed, content-tabulate, all_summed, pages_begun, page_inside}
 use Rattle.dg_boot.proofs.loading.image_crc.Goals as goal
 

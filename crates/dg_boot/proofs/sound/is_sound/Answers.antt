@@ -1,7 +1,7 @@
 use Rattle.std.proofs.Common.{ℕ, List, ap, arith}
 use Rattle.dg_slot.specs.Layout.{page_sector}
 use Rattle.dg_slot.specs.Pages.{page_in}
-use Rattle.dg_boot.proofs.ReadLemmas.{Looked_then}
+use Rattle.dg_nor.proofs.ReadLemmas.{Looked_then}
 use Rattle.dg_boot.proofs.SoundLemmas.{sound_more, sound_fails, sound_all}
 use Rattle.dg_boot.proofs.sound.is_sound.Goals as goal
 

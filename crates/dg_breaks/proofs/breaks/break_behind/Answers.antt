@@ -1,5 +1,4 @@
-use Rattle.dg_slot.proofs.ReadLemmas.{Looked_then, ReadStopped_after}
-use Rattle.dg_nor.proofs.ReadLemmas.{ReadEnds_err}
+use Rattle.dg_nor.proofs.ReadLemmas.{Looked_then, ReadStopped_after, ReadEnds_err}
 use Rattle.dg_breaks.proofs.breaks.break_behind.Goals as goal
 
 pub returns-in_err-descriptor_byte-clause-ends : goal.returns-in_err-descriptor_byte-clause-ends

@@ -1,6 +1,6 @@
 use Rattle.std.proofs.Common.{◌∙◌, ℕ, List, subst, rules}
 use Rattle.dg_control.specs.Store.{Controls}
-use Rattle.dg_slot.proofs.ReadLemmas.{Looked_then, read_after}
+use Rattle.dg_nor.proofs.ReadLemmas.{Looked_then, read_after}
 use Rattle.dg_breaks.proofs.BreakLemmas.{breaks_behind, breaks_before, not_all_hold}
 use Rattle.dg_breaks.proofs.breaks.first_break.Goals as goal
 

@@ -1,7 +1,6 @@
 use Rattle.std.proofs.Common.{ℕ, List, subst, below_more}
-use Rattle.dg_slot.proofs.ReadLemmas.{Looked_then, ReadStopped_after}
+use Rattle.dg_nor.proofs.ReadLemmas.{Looked_then, ReadStopped_after, ReadEnds_err}
 use Rattle.dg_breaks.specs.Breaks.{slot_state, HoldsDescriptor}
-use Rattle.dg_nor.proofs.ReadLemmas.{ReadEnds_err}
 use Rattle.dg_breaks.proofs.breaks.first_undescribed.Goals as goal
 
 pub loop-image-preserved : goal.loop-image-preserved

@@ -1,6 +1,5 @@
 use Rattle.std.proofs.Common.{ℕ, List, subst, below_more}
-use Rattle.dg_nor.proofs.ReadLemmas.{ReadEnds_err}
-use Rattle.dg_slot.proofs.ReadLemmas.{Looked_then, ReadStopped_after}
+use Rattle.dg_nor.proofs.ReadLemmas.{ReadEnds_err, Looked_then, ReadStopped_after}
 use Rattle.dg_breaks.specs.Breaks.{slot_state, HoldsHeader}
 use Rattle.dg_breaks.proofs.breaks.first_without_header.Goals as goal
 

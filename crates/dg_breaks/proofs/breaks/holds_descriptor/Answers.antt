@@ -1,6 +1,6 @@
 use Rattle.std.proofs.Common.{arith}
 use Rattle.dg_breaks.proofs.BreakLemmas.{nothing_described, described_by}
-use Rattle.dg_slot.proofs.ReadLemmas.{read_after}
+use Rattle.dg_nor.proofs.ReadLemmas.{read_after}
 use Rattle.dg_breaks.proofs.breaks.holds_descriptor.Goals as goal
 
 pub returns-then-seen-eq0-clause-holds : goal.returns-then-seen-eq0-clause-holds

@@ -1,5 +1,5 @@
 use Rattle.std.proofs.Common.{rules}
-use Rattle.dg_slot.proofs.ReadLemmas.{read_after}
+use Rattle.dg_nor.proofs.ReadLemmas.{read_after}
 use Rattle.dg_breaks.proofs.ByteLemmas.{descriptor_at}
 use Rattle.dg_breaks.proofs.bytes.descriptor_byte.Goals as goal
 

@@ -1,5 +1,5 @@
 use Rattle.std.proofs.Common.{◌≡◌, suc, ◌+◌, ◌-◌, ◌<◌, ◌∙◌, arith}
-use Rattle.dg_slot.proofs.ReadLemmas.{Looked_then}
+use Rattle.dg_nor.proofs.ReadLemmas.{Looked_then}
 use Rattle.dg_chain.specs.Checking.{first_break, pages_on, data_pages}
 use Rattle.dg_chain.proofs.StepLemmas.{last_or, last_of_some, walk_more, last_more, walk_stops, walk_ended, last_ended, stops_after}
 use Rattle.dg_chain.proofs.checking.walk.Goals as goal

@@ -2,7 +2,7 @@ use Rattle.std.proofs.Common.{sym, ap, ◌∙◌, Err}
 use Rattle.std.proofs.lemmas.Bool.{eqb-true}
 use Rattle.dg_nor.specs.Reads.{Looked, ReadStopped}
 use Rattle.dg_volume.specs.Store.{held}
-use Rattle.dg_volume.proofs.ReadLemmas.{Looked_then, Looked_stopped}
+use Rattle.dg_nor.proofs.ReadLemmas.{Looked_then, ReadStopped_after}
 use Rattle.dg_end.specs.Conversions.{end_of_mount}
 use Rattle.dg_chain_tool.specs.Verbs.{check_by}
 use Rattle.dg_tool.proofs.BoardLemmas.{some_of, no_boards, at_boards, same_bytes}
@@ -27,7 +27,7 @@ pub returns-clause-done : goal.returns-clause-done
 returns-clause-done g c =
     let m = c.in_ok-volume.ensures in
     acted_first g.N.Nor.device c.args.boards.now _ _ ⊥ (λ s. check_by c.args.root.now (held s c.args.image)) (λ chip. Looked) (λ chip. ReadStopped) (some_of _ (sym c.is_empty.ensures ∙ c.if-is_empty.false)) (λ s. check_needs c.args.root.now (held s c.args.image))
-    _ _ c.in_ok-volume.volume m.looked m.same_image m.volume m.mounted (λ s h. Looked_then m.looked h) (λ s h. Looked_stopped m.looked h) c.check_mounted.ensures.done
+    _ _ c.in_ok-volume.volume m.looked m.same_image m.volume m.mounted (λ s h. Looked_then m.looked h) (λ s h. ReadStopped_after m.looked h) c.check_mounted.ensures.done
 
 pub returns-clause-unchanged : goal.returns-clause-unchanged
 returns-clause-unchanged g c = same_bytes g.N.Nor.device c.args.boards.now _ _ (some_of _ (sym c.is_empty.ensures ∙ c.if-is_empty.false)) (c.check_mounted.ensures.unchanged ∙ c.in_ok-volume.ensures.same_image)

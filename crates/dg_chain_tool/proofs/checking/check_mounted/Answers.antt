@@ -1,6 +1,6 @@
 use Rattle.std.proofs.Common.{sym, ◌∙◌, Some, None, Err}
 use Rattle.dg_nor.specs.Reads.{Looked, ReadStopped}
-use Rattle.dg_volume.proofs.ReadLemmas.{Looked-none}
+use Rattle.dg_nor.proofs.ReadLemmas.{Looked-none}
 use Rattle.dg_end.specs.declared.refusal.Refusal.TheVariants as refusals
 use Rattle.dg_end.specs.declared.ends.End.TheVariants as ends
 use Rattle.dg_tool.proofs.OutcomeLemmas.{refused_store}

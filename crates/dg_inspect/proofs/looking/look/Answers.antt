@@ -1,6 +1,6 @@
 use Rattle.std.proofs.Common.{List, ℕ, sym, subst, rules}
 use Rattle.dg_control.specs.Store.{HasForm}
-use Rattle.dg_slot.proofs.ReadLemmas.{Looked_then}
+use Rattle.dg_nor.proofs.ReadLemmas.{Looked_then}
 use Rattle.dg_volume.specs.Stands.{IsNoVolume, Mounted}
 use Rattle.dg_breaks.specs.Breaks.{BreaksAt}
 use Rattle.dg_inspect.proofs.SeenLemmas.{look_fails_after}

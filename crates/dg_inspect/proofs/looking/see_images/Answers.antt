@@ -1,6 +1,6 @@
 use Rattle.std.proofs.Common.{◌≡◌, ℕ, ◌+◌, List, [], ◌∷◌, ◌++◌, length, Option, sym, ap, subst, ◌∙◌, None, get_or, length-append}
 use Rattle.dg_inspect.specs.declared.seen.ImageSeen.{ImageSeen}
-use Rattle.dg_slot.proofs.ReadLemmas.{Looked_then, ReadStopped_after}
+use Rattle.dg_nor.proofs.ReadLemmas.{Looked_then, ReadStopped_after}
 use Rattle.dg_volume.specs.Store.{held}
 use Rattle.dg_volume.specs.Stands.{Mounted, IsMounted}
 use Rattle.dg_inspect.specs.Pages.{ShowsKept}

@@ -1,6 +1,6 @@
 use Rattle.std.proofs.Common.{◌≡◌, ◌<◌, ℕ, List, Option, None, IfSome, get_or, sym, ap, subst, ◌∙◌}
 use Rattle.dg_control.specs.declared.snapshot.Snapshot.{Snapshot}
-use Rattle.dg_slot.proofs.ReadLemmas.{Looked_then, ReadStopped_after}
+use Rattle.dg_nor.proofs.ReadLemmas.{Looked_then, ReadStopped_after}
 use Rattle.dg_volume.specs.Store.{held}
 use Rattle.dg_volume.specs.Told.{program_told}
 use Rattle.dg_volume.specs.Stands.{HoldsApp}

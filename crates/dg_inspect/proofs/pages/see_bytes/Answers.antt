@@ -12,7 +12,7 @@ use Rattle.dg_nor.proofs.ChipLemmas.{length-sector}
 use Rattle.dg_object.specs.Object.{pages_for}
 use Rattle.dg_slot.specs.Layout.{page_size, most_pages}
 use Rattle.dg_slot.specs.Pages.{page_in}
-use Rattle.dg_slot.proofs.ReadLemmas.{Looked_then, Looked-none}
+use Rattle.dg_nor.proofs.ReadLemmas.{Looked_then, Looked-none}
 use Rattle.dg_boot.proofs.ContentLemmas.{content-tabulate, pages_begun, page_inside}
 use Rattle.dg_inspect.proofs.PageLemmas.{page_added, all_added}
 use Rattle.dg_inspect.proofs.pages.see_bytes.Goals as goal

@@ -3,7 +3,7 @@ use Rattle.dg_object.specs.Descriptor.{IsDescriptor}
 use Rattle.dg_object.specs.Records.{details_of}
 use Rattle.dg_slot.specs.Pages.{page_in}
 use Rattle.dg_inspect.specs.Pages.{pages_from, is_unsound, bytes_seen}
-use Rattle.dg_slot.proofs.ReadLemmas.{Looked_then, read_after}
+use Rattle.dg_nor.proofs.ReadLemmas.{Looked_then, read_after}
 use Rattle.dg_inspect.proofs.PageLemmas.{said_is}
 use Rattle.dg_inspect.proofs.pages.see_pages.Goals as goal
 

@@ -1,4 +1,4 @@
-use Rattle.dg_slot.proofs.ReadLemmas.{read_after}
+use Rattle.dg_nor.proofs.ReadLemmas.{read_after}
 use Rattle.dg_inspect.proofs.pages.see_whole.Goals as goal
 
 pub returns-clause-ends : goal.returns-clause-ends

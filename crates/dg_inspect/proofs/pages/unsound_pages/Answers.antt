@@ -4,7 +4,7 @@ use Rattle.std.specs.FinSet as set
 use Rattle.dg_base.specs.Crc.{crc_of}
 use Rattle.dg_object.specs.Descriptor.{crc_in}
 use Rattle.dg_slot.specs.Pages.{page_in}
-use Rattle.dg_slot.proofs.ReadLemmas.{Looked_then, Looked-none}
+use Rattle.dg_nor.proofs.ReadLemmas.{Looked_then, Looked-none}
 use Rattle.dg_bits.proofs.SetLaws.{contains-none}
 use Rattle.dg_inspect.proofs.PageLemmas.{bad_more, bad_none, bad_table, is_bad, zero_place}
 use Rattle.dg_inspect.proofs.pages.unsound_pages.Goals as goal

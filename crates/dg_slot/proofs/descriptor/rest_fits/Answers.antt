@@ -5,7 +5,7 @@ use Rattle.dg_object.specs.Sizes.{page_size, head_size}
 use Rattle.dg_object.specs.Descriptor.{RestFits}
 use Rattle.dg_nor.specs.Chip.{sector}
 use Rattle.dg_nor.proofs.ChipLemmas.{length-sector}
-use Rattle.dg_slot.proofs.ReadLemmas.{Looked-none, Looked_then}
+use Rattle.dg_nor.proofs.ReadLemmas.{Looked-none, Looked_then}
 use Rattle.dg_slot.proofs.DescriptorLemmas.{rest_none, rest_more, rest_part}
 use Rattle.dg_slot.proofs.descriptor.rest_fits.Goals as goal
 

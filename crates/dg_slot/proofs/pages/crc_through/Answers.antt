@@ -2,7 +2,7 @@ use Rattle.std.proofs.Common.{◌≡◌, refl, sym, ◌∙◌, ◌+◌, length, 
 use Rattle.dg_nor.specs.Sizes.{sector_size}
 use Rattle.dg_nor.specs.Chip.{sector}
 use Rattle.dg_nor.proofs.ChipLemmas.{length-sector}
-use Rattle.dg_slot.proofs.ReadLemmas.{Looked-none, Looked_then}
+use Rattle.dg_nor.proofs.ReadLemmas.{Looked-none, Looked_then}
 use Rattle.dg_slot.proofs.PageLemmas.{crc_none, crc_piece}
 use Rattle.dg_slot.proofs.pages.crc_through.Goals as goal
 

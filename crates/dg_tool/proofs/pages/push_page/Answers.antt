@@ -4,7 +4,7 @@ use Rattle.dg_nor.specs.Sizes.{sectors}
 use Rattle.dg_nor.specs.Chip.{sector}
 use Rattle.dg_nor.proofs.ChipLemmas.{length-sector}
 use Rattle.dg_slot.specs.Layout.{packet_size, page_size, page_sector}
-use Rattle.dg_volume.proofs.ReadLemmas.{Looked-none, Looked_then}
+use Rattle.dg_nor.proofs.ReadLemmas.{Looked-none, Looked_then}
 use Rattle.dg_tool.proofs.PageLemmas.{packet_none, packet_more, page_grown}
 use Rattle.dg_tool.proofs.ReadLemmas.{reads_err}
 use Rattle.dg_tool.proofs.pages.push_page.Goals as goal

@@ -1,5 +1,5 @@
 use Rattle.std.proofs.Common.{arith, ℕ}
-use Rattle.dg_volume.proofs.ReadLemmas.{Looked-none}
+use Rattle.dg_nor.proofs.ReadLemmas.{Looked-none}
 use Rattle.dg_tool.proofs.ReadLemmas.{reads_err}
 use Rattle.dg_tool.proofs.pages.read_bytes.Goals as goal
 

@@ -2,7 +2,7 @@ use Rattle.std.proofs.Common.{◌≡◌, ℕ, ◌+◌, ◌-◌, ◌*◌, List, s
 use Rattle.std.specs.List.{flat_map, range_with_len}
 use Rattle.dg_slot.specs.Layout.{page_size, page_sector}
 use Rattle.dg_slot.specs.Pages.{page_in}
-use Rattle.dg_volume.proofs.ReadLemmas.{Looked_then}
+use Rattle.dg_nor.proofs.ReadLemmas.{Looked_then}
 use Rattle.dg_tool.proofs.PageLemmas.{page_more, data_kept}
 use Rattle.dg_tool.proofs.ReadLemmas.{reads_err}
 use Rattle.dg_tool.proofs.pages.read_data.Goals as goal

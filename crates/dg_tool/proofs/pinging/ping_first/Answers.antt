@@ -1,7 +1,7 @@
 use Rattle.std.proofs.Common.{sym, ap, ◌∙◌, Err, Ok, ℕ}
 use Rattle.std.proofs.lemmas.Bool.{eqb-true}
 use Rattle.dg_nor.specs.Reads.{Looked, ReadStopped}
-use Rattle.dg_volume.proofs.ReadLemmas.{Looked_then, Looked_stopped}
+use Rattle.dg_nor.proofs.ReadLemmas.{Looked_then, ReadStopped_after}
 use Rattle.dg_end.specs.Conversions.{end_of_mount}
 use Rattle.dg_tool.specs.Endings.{Acting}
 use Rattle.dg_tool.specs.Verbs.{ping_text}
@@ -30,7 +30,7 @@ returns-in_err-text-clause-done g c =
     let x = c.in_err-text in
     at_boards _ c.from_residual-in_err-text.result x.field-0.0 _ _ _ _ c.from_residual-in_err-text.ensures.1
     (acted_first g.N.Nor.device c.args.boards.now _ _ ⊥ (λ s. Acting (Ok (ping_text s))) (λ chip. Looked) (λ chip. ReadStopped) (some_of _ (sym c.is_empty.ensures ∙ c.if-is_empty.false)) (λ s. tt)
-    _ _ c.in_ok-volume.volume m.looked m.same_image m.volume m.mounted (λ s h. Looked_then m.looked h) (λ s h. Looked_stopped m.looked h)
+    _ _ c.in_ok-volume.volume m.looked m.same_image m.volume m.mounted (λ s h. Looked_then m.looked h) (λ s h. ReadStopped_after m.looked h)
     (λ s there. reads_fail ℕ x.field-0.0 (Acting (Ok (ping_text s))) Looked _ _ tt x.ensures.ends))
 
 pub returns-in_err-text-clause-unchanged : goal.returns-in_err-text-clause-unchanged
@@ -42,7 +42,7 @@ returns-clause-done g c =
     let m = c.in_ok-volume.ensures in
     let x = c.in_ok-text.ensures in
     acted_first g.N.Nor.device c.args.boards.now _ _ ⊥ (λ s. Acting (Ok (ping_text s))) (λ chip. Looked) (λ chip. ReadStopped) (some_of _ (sym c.is_empty.ensures ∙ c.if-is_empty.false)) (λ s. tt)
-    _ _ c.in_ok-volume.volume m.looked m.same_image m.volume m.mounted (λ s h. Looked_then m.looked h) (λ s h. Looked_stopped m.looked h)
+    _ _ c.in_ok-volume.volume m.looked m.same_image m.volume m.mounted (λ s h. Looked_then m.looked h) (λ s h. ReadStopped_after m.looked h)
     (λ s there. made_store Looked ReadStopped _ _ c.in_ok-text.text.items (ping_text s) (x.told s there) x.ends)
 
 pub returns-clause-unchanged : goal.returns-clause-unchanged

@@ -6,7 +6,7 @@ use Rattle.dg_tool.specs.Verbs.{commits_text}
 use Rattle.dg_tool.proofs.ReadLemmas.{reads_err, reads_wants}
 use Rattle.dg_end.proofs.TextLemmas.{behind_none}
 use Rattle.dg_tool.proofs.KeptLemmas.{golden_here, golden_line}
-use Rattle.dg_volume.proofs.ReadLemmas.{Looked_then}
+use Rattle.dg_nor.proofs.ReadLemmas.{Looked_then}
 use Rattle.dg_tool.proofs.pinging.ping_mounted.Goals as goal
 
 pub returns-in_err-push_golden-clause-ends : goal.returns-in_err-push_golden-clause-ends

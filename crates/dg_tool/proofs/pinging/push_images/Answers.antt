@@ -2,7 +2,7 @@ use Rattle.std.proofs.Common.{◌≡◌, ℕ, ◌-◌, ◌++◌, ap, ◌∙◌, 
 use Rattle.std.specs.List.{flat_map, range_with_len}
 use Rattle.dg_volume.specs.Sizes.{images}
 use Rattle.dg_volume.specs.Store.{held}
-use Rattle.dg_volume.proofs.ReadLemmas.{Looked_then}
+use Rattle.dg_nor.proofs.ReadLemmas.{Looked_then}
 use Rattle.dg_boot.proofs.BootLemmas.{mounted_looked}
 use Rattle.dg_tool.specs.Verbs.{ping_line}
 use Rattle.dg_end.proofs.TextLemmas.{lines_more}

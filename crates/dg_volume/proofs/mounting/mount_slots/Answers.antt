@@ -1,6 +1,7 @@
 use Rattle.std.proofs.Common.{◌≢◌, ℕ, ◌<◌, length, subst, ◌∙◌, List, None, arith, get_or, below_more, get_or-set_other, get_or-set_same}
 use Rattle.std.proofs.Math.ListN.{length-set}
-use Rattle.dg_volume.proofs.ReadLemmas.{Looked_then, mount_after}
+use Rattle.dg_nor.proofs.ReadLemmas.{Looked_then}
+use Rattle.dg_volume.proofs.ReadLemmas.{mount_after}
 use Rattle.dg_control.specs.declared.snapshot.SlotState.TheVariants.{Dirty}
 use Rattle.dg_volume.specs.Reading.{SlotKeeps}
 use Rattle.dg_volume.proofs.mounting.mount_slots.Goals as goal

@@ -1,7 +1,6 @@
 use Rattle.std.proofs.Common.{◌≢◌, ℕ, ◌<◌, length, subst, sym, ◌∙◌, List, None, arith, get_or, below_more, get_or-set_other, get_or-set_same}
 use Rattle.std.proofs.Math.ListN.{length-set}
-use Rattle.dg_nor.proofs.ReadLemmas.{ReadEnds_err}
-use Rattle.dg_volume.proofs.ReadLemmas.{Looked_then, Looked_stopped}
+use Rattle.dg_nor.proofs.ReadLemmas.{ReadEnds_err, Looked_then, ReadStopped_after}
 use Rattle.dg_volume.proofs.RemountLemmas.{took_slot, took_stopped, took_slots, awake_after}
 use Rattle.dg_control.specs.declared.snapshot.SlotState.TheVariants.{Dirty}
 use Rattle.dg_volume.specs.Reading.{SlotKeeps}
@@ -46,4 +45,4 @@ pub returns-clause-awake : goal.returns-clause-awake
 returns-clause-awake g c golden = c.loop-image.invariant.awake (omega (arith, c.loop-image-test.false)) golden
 
 pub returns-in_err-kept-clause-ends : goal.returns-in_err-kept-clause-ends
-returns-in_err-kept-clause-ends g c = ReadEnds_err _ c.from_residual.result _ _ c.from_residual.ensures.1 (Looked_stopped c.loop-image.invariant.looked c.in_err-kept.ensures.ends)
+returns-in_err-kept-clause-ends g c = ReadEnds_err _ c.from_residual.result _ _ c.from_residual.ensures.1 (ReadStopped_after c.loop-image.invariant.looked c.in_err-kept.ensures.ends)

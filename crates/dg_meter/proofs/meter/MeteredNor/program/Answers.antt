@@ -9,4 +9,4 @@ returns-clause-ran g c part =
 
 pub returns-clause-refilled : goal.returns-clause-refilled
 returns-clause-refilled g c whole =
-    meter_refilled c.args.self.now.tally c.program-2.new.self (c.program-2.ensures.is.whole whole) (c.in_ok-program.ensures.refilled whole)
+    meter_refilled c.args.self.now.tally c.program-2.new.self c.in_ok-program.ensures.awake (c.program-2.ensures.is.whole whole) (c.in_ok-program.ensures.refilled whole)

@@ -1,6 +1,6 @@
 use Rattle.std.proofs.Common.{rules, sym, ◌∙◌}
 use Rattle.dg_volume.specs.Store.{held}
-use Rattle.dg_volume.proofs.ReadLemmas.{Looked_then, Looked_stopped}
+use Rattle.dg_nor.proofs.ReadLemmas.{Looked_then, ReadStopped_after}
 use Rattle.dg_volume.proofs.RemountLemmas.{remounted, keeps_again, golden_live, took_all, took_control}
 use Rattle.dg_volume.proofs.volume.Volume.remount.Goals as goal
 
@@ -20,7 +20,7 @@ remount_slots-requires g c =
     }
 
 pub returns-in_err-kept-clause-stopped : goal.returns-in_err-kept-clause-stopped
-returns-in_err-kept-clause-stopped g c = search (rules, Looked_stopped)
+returns-in_err-kept-clause-stopped g c = search (rules, ReadStopped_after)
 
 pub returns-clause-looked : goal.returns-clause-looked
 returns-clause-looked g c = Looked_then c.in_ok-control.ensures.ends c.in_ok-kept.ensures.ends
