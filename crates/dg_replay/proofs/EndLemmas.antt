@@ -29,7 +29,7 @@ use Rattle.dg_world.specs.Boards.{WorldStands}
 use Rattle.dg_replay.specs.Boards.{EventNext, InSome, LacksImage, BoardsStand, StoppedIn}
 use Rattle.dg_replay.specs.Ending.{Ending, Ends, NoBoards, TooManyEvents, FaultAt, Over, events_in, InBounds, by_fault, ending_from, ending_line, whole_lines, used, has_unused_bytes, script_of, ending_of, InLimits}
 use Rattle.dg_replay.specs.Near.{behind_lines, FewBytesBehind}
-use Rattle.dg_replay.specs.Replayed.{Progress, item_played, played_text, ReachesEnding, closing, StopsAt, BoardsLeft, RunsTo, IsSettled, NextIsWhole, DoneIsWhole, BoardsEndIt, no_volume_line, no_image_line}
+use Rattle.dg_replay.specs.Replayed.{Progress, item_played, played_text, ReachesEnding, closing, StopsAt, BoardsLeft, RunsTo, IsSettled, NextIsWhole, DoneIsWhole, BoardsEndIt, Untouched, IsSeenAs, no_volume_line, no_image_line}
 use Rattle.dg_world.specs.Mounted.{StandFor}
 use Rattle.dg_world.specs.Applied.{SameBoards}
 use Rattle.dg_replay.specs.Replaying.{ReportedBefore, StopEnds, IsLeft, Reached, HasFew, StopsAtText, StopsInTaken, ByRules, ReadyToEnd, EndsWith, FinishesWith, ScriptReplayed}
@@ -51,7 +51,7 @@ EndsBy TooMany e = e ≡ TooManyEvents
 EndsBy (NoBoard motes boards) e = e ≡ NoBoards motes boards
 EndsBy stop e = Unit {0}
 
-pub stop_ending : {table : List Row} (stop : Stop) (over : Bool) (script : Script) (W : Progress table script → Type 0) (number : ℕ) (initial now : List Device) (before after : Option (List ℕ)) (failed : Type 0) (S G : Saw)
+pub stop_ending : {table : List Row} (stop : Stop) (over : Bool) (script : Script) (W : Saw → Progress table script → Type 0) (number : ℕ) (initial now : List Device) (before after : Option (List ℕ)) (failed : Type 0) (S G : Saw)
     → StopsAtText table stop script W number (span initial now before after S G) failed → EndsBy stop (ending_from (length initial) over script)
 stop_ending Memory over script W number initial now before after failed S G f = tt
 stop_ending (BadInput line fault) over script W number initial now before after failed S G (same, f) = fault_ending over script initial line fault f.there.3 f.there.1
@@ -65,9 +65,13 @@ stop_ending (NoBoard motes boards) over script W number initial now before after
 stop_ending NoImage over script W number initial now before after failed S G f = tt
 stop_ending NotAVolume over script W number initial now before after failed S G f = tt
 
+-- what is known where a write failed: the boards, and what a watcher saw, which may be the end
+abbrev LeftAtCut : {table : List Row} {script : Script} → (S G : Saw) → Progress table script → (initial now : List Device) → Type 0
+LeftAtCut S G c initial now = Untouched c initial now × (S.events [] [] → IsSeenAs status.WriteFault G c)
+
 -- boards end the replay, and the last line was not all written
 cut_at_end : {table : List Row} {S G : Saw} (result : Status) (script : Script) (over : Bool) (input : List ℕ) (at_end : Type 0) (number : ℕ) (initial now : List Device) (before mid after : Option (List ℕ)) (later reads worse : Type 0) → (later → worse) → FewBytesBehind number input
-    → (c : Progress table script) (line : List ℕ) → BoardsEndIt c line → Puts before mid (played_text c.played) → InBounds (length initial) c.done (map item_played c.played) → (UsesBoards c.done → StandFor (motes_in c.done) c.ground.stores initial) → BoardsLeft status.WriteFault c initial now → IsLeft (span initial now before mid S G) c
+    → (c : Progress table script) (line : List ℕ) → BoardsEndIt c line → Puts before mid (played_text c.played) → InBounds (length initial) c.done (map item_played c.played) → (UsesBoards c.done → StandFor (motes_in c.done) c.ground.stores initial) → BoardsLeft status.WriteFault c initial now → LeftAtCut S G c initial now
     → ((more : List ℕ) → ReportedBefore number c (played_text c.played ++ more)) → at_end ⊎ NextIsWhole input c.done c.rest → result ≡ status.WriteFault → PutsPrefix mid after line → later → ScriptReplayed table result script (ending_from (length initial) over script) (bytes_taken input at_end) (span initial now before after S G) (failures reads worse)
 cut_at_end {table} {S = S} {G = G} result script over input at_end number initial now before mid after later reads worse widen near c line ends told limits stood boards left tells whole same cut rose =
     let k = cut.0 in
@@ -89,6 +93,11 @@ cut_at_end {table} {S = S} {G = G} result script over input at_end number initia
       caused = widen rose;
     } in
     subst (λ (s : Status). ScriptReplayed table s script (ending_from (length initial) over script) (bytes_taken input at_end) (span initial now before after S G) (failures reads worse)) (sym same) made
+
+-- where a write failed, a watcher saw one of the two
+cut_left : {A U F X Y : Type 0} → (A × (U × (F → X))) ⊎ (A × (U × (F → Y))) → A × (U × (F → X ⊎ Y))
+cut_left (inl (a, (u, x))) = (a, (u, λ f. inl (x f)))
+cut_left (inr (a, (u, y))) = (a, (u, λ f. inr (y f)))
 
 lacks_next : (v : Option World) (left : List Item) (old new : List Device) → InSome v (λ u. LacksImage u left old new) → EventNext left
 lacks_next None left old new lacks = absurd lacks
@@ -121,17 +130,18 @@ stopped_ends {table} {S = S} {G = G} (BadInput line fault) result script over in
     (ended result script (FaultAt line fault) _ input at_end initial now before mid after later reads worse widen ready settled f.there.4.0 (λ text. there) done)
 stopped_ends {table} {S = S} {G = G} WriteFault result script over input at_end number initial now before mid after failed later reads worse spread widen near settled (rose, f) (same, told) =
     let before_it = f.there.1 in
+    let there = cut_left f.there.2 in
     let made : ScriptReplayed table status.WriteFault script (ending_from (length initial) over script) (bytes_taken input at_end) (span initial now before after S G) (failures reads worse) = record {
       came = f.came;
       text = f.text;
       written = subst (λ (o : Option (List ℕ)). Puts before o f.text) (sym told) f.reported;
       report = record { more = f.more; front = inl f.whole };
-      read = ⊎_elim (λ (x : at_end). inl x) (λ (x : DoneIsWhole input f.came.done f.came.rest f.came.begun). inr (inr (inl (x, record { more = f.more; front = f.whole })))) f.there.2.0;
+      read = ⊎_elim (λ (x : at_end). inl x) (λ (x : DoneIsWhole input f.came.done f.came.rest f.came.begun). inr (inr (inl (x, record { more = f.more; front = f.whole })))) there.0;
       near = inl (record { lines = before_it.lines; within = before_it.within; more = before_it.more; reported = before_it.reported; near = near_later number (before_it.lines + 1) input before_it.behind near });
       limits = f.limits;
       stood = f.stood;
       boards = f.there.0;
-      left = f.there.2.1;
+      left = there.1;
       caused = spread rose;
     } in
     subst (λ (s : Status). ScriptReplayed table s script (ending_from (length initial) over script) (bytes_taken input at_end) (span initial now before after S G) (failures reads worse)) (sym same) made
@@ -156,7 +166,7 @@ stopped_ends {table} {S = S} {G = G} TooMany result script over input at_end num
     subst (λ (x : Ending). ScriptReplayed table result script x (bytes_taken input at_end) (span initial now before after S G) (failures reads worse)) (sym e)
     (ended result script TooManyEvents _ input at_end initial now before mid after later reads worse widen ready settled f.there.3.0 (λ text. tt) done)
 stopped_ends {table} {S = S} {G = G} (NoBoard motes boards) result script over input at_end number initial now before mid after failed later reads worse spread widen near settled f done =
-    let e = stop_ending (NoBoard motes boards) over script (λ c. (at_end ⊎ DoneIsWhole input c.done c.rest c.begun) × IsLeft (span initial now before mid S G) c) number initial now before mid failed S G f in
+    let e = stop_ending (NoBoard motes boards) over script (λ saw c. (at_end ⊎ DoneIsWhole input c.done c.rest c.begun) × IsLeft (span initial now before mid S G) saw c) number initial now before mid failed S G f in
     let ready : ReadyToEnd table script (NoBoards motes boards) (ending_line (NoBoards motes boards)) (span initial now before mid S G) = record { came = f.came; reported = f.reported; boards = f.there.2; left = f.there.4.1; all = f.there.1; line = refl; limits = f.limits; stood = f.stood } in
     subst (λ (x : Ending). ScriptReplayed table result script x (bytes_taken input at_end) (span initial now before after S G) (failures reads worse)) (sym e)
     (ended result script (NoBoards motes boards) _ input at_end initial now before mid after later reads worse widen ready settled f.there.4.0 (λ text. tt) done)
@@ -170,13 +180,13 @@ stopped_ends {table} {S = S} {G = G} NoImage result script over input at_end num
       near = tt;
       limits = f.limits;
       stood = f.stood;
-      boards = f.there.2.0;
+      boards = f.there.2;
       left = f.there.4.1;
       caused = (f.there.1, f.there.2);
     } in
     subst (λ (s : Status). ScriptReplayed table s script (ending_from (length initial) over script) (bytes_taken input at_end) (span initial now before after S G) (failures reads worse)) (sym same) made
 stopped_ends {table} NoImage result script over input at_end number initial now before mid after failed later reads worse spread widen near settled f (inr (same, cut, rose)) =
-    cut_at_end result script over input at_end number initial now before mid after later reads worse widen near f.came no_image_line (inr (f.there.1, lacks_next f.came.last f.came.left initial now f.there.2.0, refl)) f.reported f.limits f.stood (inr (inr (inr (f.there.1, f.there.2.0)))) f.there.4.1 f.there.3 f.there.4.0 same cut rose
+    cut_at_end result script over input at_end number initial now before mid after later reads worse widen near f.came no_image_line (inr (f.there.1, lacks_next f.came.last f.came.left initial now f.there.2, refl)) f.reported f.limits f.stood (inr (inr (inr (f.there.1, f.there.2)))) (f.there.4.1.0, λ seen. inr (f.there.4.1.1 seen)) f.there.3 f.there.4.0 same cut rose
 stopped_ends {table} {S = S} {G = G} NotAVolume result script over input at_end number initial now before mid after failed later reads worse spread widen near settled f (inl (same, put)) =
     let made : ScriptReplayed table status.NotAVolume script (ending_from (length initial) over script) (bytes_taken input at_end) (span initial now before after S G) (failures reads worse) = record {
       came = f.came;
@@ -193,7 +203,7 @@ stopped_ends {table} {S = S} {G = G} NotAVolume result script over input at_end 
     } in
     subst (λ (s : Status). ScriptReplayed table s script (ending_from (length initial) over script) (bytes_taken input at_end) (span initial now before after S G) (failures reads worse)) (sym same) made
 stopped_ends {table} NotAVolume result script over input at_end number initial now before mid after failed later reads worse spread widen near settled f (inr (same, cut, rose)) =
-    cut_at_end result script over input at_end number initial now before mid after later reads worse widen near f.came no_volume_line (inl (f.there.0.more, f.there.0.next, refl)) f.reported f.limits f.stood (inr (inr (inl f.there.0))) f.there.2.1 f.there.1 f.there.2.0 same cut rose
+    cut_at_end result script over input at_end number initial now before mid after later reads worse widen near f.came no_volume_line (inl (f.there.0.more, f.there.0.next, refl)) f.reported f.limits f.stood (inr (inr (inl f.there.0))) (f.there.2.1.0, λ seen. inl (f.there.2.1.1 seen)) f.there.1 f.there.2.0 same cut rose
 
 -- a script whose lines were all played
 lines_done : {table : List Row} {S G : Saw} (ends : Bool) (script : Script) (n : ℕ) (p : Player) (initial now : List Device) (before mid : Option (List ℕ)) → (r : Reached table ends script [] n p (span initial now before mid S G)) → r.done ++ [] ≡ script.lines

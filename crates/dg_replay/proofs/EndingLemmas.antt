@@ -21,8 +21,8 @@ use Rattle.dg_world.specs.Boards.{BoardStopped}
 use Rattle.dg_replay.specs.Boards.{EventNext, BoardsStand}
 use Rattle.dg_replay.specs.Ending.{Ending, Ends, NoBoards, TooManyEvents, FaultAt, Over, events_in, by_fault, by_boards, ending_from, ending_status, used}
 use Rattle.dg_replay.specs.inner.Words.{by_events}
-use Rattle.dg_replay.specs.Replayed.{Progress, played_text, AtTooMany, IsWholeReport, Wrote, BoardsLeft, IsCaused, IsSettled, DoneIsWhole, RestsOnTaken, EndsNear, ReadsNear, NoVolumeThere}
-use Rattle.dg_replay.specs.Replaying.{HasFew, ReadyToEnd, EndsWith, ScriptReplayed, NoImageShown}
+use Rattle.dg_replay.specs.Replayed.{Progress, played_text, AtTooMany, IsWholeReport, Wrote, BoardsLeft, IsCaused, IsSettled, DoneIsWhole, RestsOnTaken, EndsNear, ReadsNear, NoVolumeThere, NoImageThere, IsSeen, IsSeenAs}
+use Rattle.dg_replay.specs.Replaying.{HasFew, ReadyToEnd, EndsWith, ScriptReplayed}
 use Rattle.dg_base.specs.declared.events.Step.{Step}
 use Rattle.dg_script.specs.declared.line.Line.{Line}
 use Rattle.dg_script.specs.declared.line.Line.TheVariants.{Nothing, Motes, Golden, Boards as BoardsLine, Link, Narrow, Image, Cut, Happens as EventLine, Round, Sweeps}
@@ -51,6 +51,14 @@ caused_by (NoBoards m k) r w b v i = refl
 caused_by TooManyEvents r w b v i = refl
 caused_by (FaultAt line f) r w b v i = refl
 caused_by Over r w b v i = refl
+
+-- no event ended the replay
+seen_by : {table : List Row} {script : Script} (e : Ending) (saw : Saw) (c : Progress table script) → IsSeen saw c → IsSeenAs (ending_status e) saw c
+seen_by Ends saw c seen = seen
+seen_by (NoBoards m b) saw c seen = seen
+seen_by TooManyEvents saw c seen = seen
+seen_by (FaultAt line f) saw c seen = seen
+seen_by Over saw c seen = seen
 
 -- the bytes that were taken settle the ending
 enough_by : {table : List Row} {script : Script} (e : Ending) (n : ℕ) (input : List ℕ) (at_end : Type 0) (c : Progress table script) (text : List ℕ) → at_end ⊎ IsSettled n input → RestsOnTaken (ending_status e) n (bytes_taken input at_end) c text
@@ -84,8 +92,8 @@ ended {table} {S = S} {G = G} result script e piece input at_end initial now bef
       limits = r.limits;
       stood = r.stood;
       boards = boards_of e r.came initial now r.boards;
-      left = r.left;
-      caused = caused_by e reads worse (BoardStopped (motes_in r.came.done) initial now) (NoVolumeThere r.came initial now) ((UsesBoards r.came.done) × NoImageShown (span initial now before after S G) r.came);
+      left = (r.left.0, λ f. seen_by e G r.came (r.left.1 f));
+      caused = caused_by e reads worse (BoardStopped (motes_in r.came.done) initial now) (NoVolumeThere r.came initial now) ((UsesBoards r.came.done) × NoImageThere r.came initial now);
     } in
     subst (λ (s : Status). ScriptReplayed table s script e (bytes_taken input at_end) (span initial now before after S G) (failures reads worse)) (sym done.0) made
 ended {table} {S = S} {G = G} result script e piece input at_end initial now before mid after failed reads worse spread r settled whole near (inr (inl cut)) =
@@ -106,7 +114,7 @@ ended {table} {S = S} {G = G} result script e piece input at_end initial now bef
       limits = r.limits;
       stood = r.stood;
       boards = inl r.boards;
-      left = r.left;
+      left = (r.left.0, λ f. inl (r.left.1 f));
       caused = spread cut.2;
     } in
     subst (λ (s : Status). ScriptReplayed table s script e (bytes_taken input at_end) (span initial now before after S G) (failures reads worse)) (sym cut.0) made

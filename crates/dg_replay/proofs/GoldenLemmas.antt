@@ -244,9 +244,9 @@ line_finds G H law ground done line played (Some w) world begun left text old ne
     let g = golden_run ground done (line ∷ []) begun left (played ++ now.played) u alone fit (one_fits _ line spelled) parts more (runs_append (beginning_of ground done).world w u played now.played run now.run) in
     golden_finds law (beginning_of ground done) left (played ++ now.played) u old new g (subst (λ (o : Option World). InSome o (λ z. LacksImage z left old new)) is lacks)
 
-pub image_found : {table : List Row} {S G H : Saw} → ImageIsFound → (ends : Bool) (spells : Script) (texts : List (List ℕ)) (n : ℕ) (p : Player) (initial now : List Device) (before mid : Option (List ℕ)) → LinesFit first_place spells.lines → (r : Reached table ends spells texts n p (span initial now before mid S G)) → (UsesBoards r.done → ⊥)
+pub image_found : {table : List Row} {S G : Saw} {H : Option World → List Item → Saw} → ImageIsFound → (ends : Bool) (spells : Script) (texts : List (List ℕ)) (n : ℕ) (p : Player) (initial now : List Device) (before mid : Option (List ℕ)) → LinesFit first_place spells.lines → (r : Reached table ends spells texts n p (span initial now before mid S G)) → (UsesBoards r.done → ⊥)
     → (text : List ℕ) (old new : List Device) → TextRead text p (λ line. LineBegun r.done line r.last G H (λ v left t. InSome v (λ u. LacksImage u left old new))) → ⊥
 image_found {G = G} {H = H} law ends spells texts n p initial now before mid fit r alone text old new read =
     let begun = read.there in
     let spelled = subst (λ (place : Place). IsSpelled place read.line) r.stood.place (is_spelled p.place text read.line read.spelled) in
-    line_finds G H law r.ground r.done read.line r.played r.last begun.world begun.begun begun.left begun.text old new alone (front_fits first_place r.done _ (subst (LinesFit first_place) (sym r.lines) fit)) spelled r.items r.run begun.parts begun.runs begun.there
+    line_finds G (H begun.world begun.left) law r.ground r.done read.line r.played r.last begun.world begun.begun begun.left begun.text old new alone (front_fits first_place r.done _ (subst (LinesFit first_place) (sym r.lines) fit)) spelled r.items r.run begun.parts begun.runs begun.there

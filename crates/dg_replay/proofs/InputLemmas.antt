@@ -23,7 +23,7 @@ use Rattle.dg_replay.specs.declared.halt.Halt.{Halt}
 use Rattle.dg_replay.specs.declared.halt.Halt.TheVariants.{ReadFault, TooLong, Stopped}
 use Rattle.dg_replay.specs.declared.player.Player.{Player}
 use Rattle.dg_replay.specs.declared.stop.Stop.{Stop}
-use Rattle.dg_replay.specs.Shown.{Saw}
+use Rattle.dg_replay.specs.Shown.{Saw, ended_saw}
 use Rattle.dg_replay.specs.Stages.{done_so_far, replay_state, Span, span}
 use Rattle.dg_replay.specs.inner.Words.{bytes_taken}
 use Rattle.dg_replay.specs.declared.stop.Stop.TheVariants.{Memory, BadInput, WriteFault, FlashFault, TooMany, NoBoard, NoImage, NotAVolume}
@@ -83,7 +83,7 @@ whole_read front bytes done is none all = subst (λ (xs : List ℕ). AllRead (li
 
 read_stopped : {table : List Row} {S H : Saw} (front bytes : List ℕ) (given : ℕ) (p : Player) (initial now : List Device) (before after : Option (List ℕ)) → IsWholeLines front → length front ≤ most_used_bytes → HasNoEnd bytes
     → Reached table false (script_from false first_place 1 (lines front)) [] (given + 1) p (span initial now before after S H)
-    → PlayedUpTo table (script_of (front ++ bytes)) initial before after (λ c. (c.begun ≡ []) × BoardsStand c.last initial now × AreWhole (front ++ bytes) c.done × AllWhole (front ++ bytes) c.done × IsLeft (span initial now before after S H) c)
+    → PlayedUpTo table (script_of (front ++ bytes)) initial before after (λ c. (c.begun ≡ []) × BoardsStand c.last initial now × AreWhole (front ++ bytes) c.done × AllWhole (front ++ bytes) c.done × IsLeft (span initial now before after S H) H c)
 read_stopped front bytes given p initial now before after is few none r =
     let first : Script = script_from false first_place 1 (lines front) in
     let c = at_line false first [] (given + 1) p initial now before after r in
@@ -135,16 +135,16 @@ lines_over {S = S} {H = H} a b c reads writes old more number p q initial was no
 -- ---- a line at which a replay stops
 
 -- a stop with one more property of what was done
-stops_with : {table : List Row} (stop : Stop) (script : Script) (W : Progress table script → Type 0) (number : ℕ) (initial now : List Device) (before after : Option (List ℕ)) (failed : Type 0) (S H : Saw) → ((c : Progress table script) → IsLeft (span initial now before after S H) c → W c)
+stops_with : {table : List Row} (stop : Stop) (script : Script) (W : Saw → Progress table script → Type 0) (number : ℕ) (initial now : List Device) (before after : Option (List ℕ)) (failed : Type 0) (S H : Saw) → ((saw : Saw) (c : Progress table script) → IsLeft (span initial now before after S H) saw c → W saw c)
     → StopsThere table stop script number (span initial now before after S H) failed → StopsAtText table stop script W number (span initial now before after S H) failed
-stops_with Memory script W number initial now before after failed S H w f = record { came = f.came; text = f.text; more = f.more; reported = f.reported; whole = f.whole; limits = f.limits; stood = f.stood; there = (f.there.0, w f.came f.there.1) }
-stops_with (BadInput line fault) script W number initial now before after failed S H w (same, f) = (same, record { came = f.came; reported = f.reported; limits = f.limits; stood = f.stood; there = (f.there.0, f.there.1, f.there.2, f.there.3, w f.came f.there.4) })
-stops_with WriteFault script W number initial now before after failed S H w (rose, f) = (rose, record { came = f.came; text = f.text; more = f.more; reported = f.reported; whole = f.whole; limits = f.limits; stood = f.stood; there = (f.there.0, f.there.1, w f.came f.there.2) })
-stops_with FlashFault script W number initial now before after failed S H w f = record { came = f.came; reported = f.reported; limits = f.limits; stood = f.stood; there = (f.there.0, f.there.1, w f.came f.there.2) }
-stops_with TooMany script W number initial now before after failed S H w f = record { came = f.came; reported = f.reported; limits = f.limits; stood = f.stood; there = (f.there.0, f.there.1, f.there.2, w f.came f.there.3) }
-stops_with (NoBoard motes boards) script W number initial now before after failed S H w f = record { came = f.came; reported = f.reported; limits = f.limits; stood = f.stood; there = (f.there.0, f.there.1, f.there.2, f.there.3, w f.came f.there.4) }
-stops_with NoImage script W number initial now before after failed S H w f = record { came = f.came; reported = f.reported; limits = f.limits; stood = f.stood; there = (f.there.0, f.there.1, f.there.2, f.there.3, w f.came f.there.4) }
-stops_with NotAVolume script W number initial now before after failed S H w f = record { came = f.came; reported = f.reported; limits = f.limits; stood = f.stood; there = (f.there.0, f.there.1, w f.came f.there.2) }
+stops_with Memory script W number initial now before after failed S H w f = record { came = f.came; text = f.text; more = f.more; reported = f.reported; whole = f.whole; limits = f.limits; stood = f.stood; there = (f.there.0, w H f.came f.there.1) }
+stops_with (BadInput line fault) script W number initial now before after failed S H w (same, f) = (same, record { came = f.came; reported = f.reported; limits = f.limits; stood = f.stood; there = (f.there.0, f.there.1, f.there.2, f.there.3, w H f.came f.there.4) })
+stops_with WriteFault script W number initial now before after failed S H w (rose, f) = (rose, record { came = f.came; text = f.text; more = f.more; reported = f.reported; whole = f.whole; limits = f.limits; stood = f.stood; there = (f.there.0, f.there.1, ⊎_elim (λ k. inl (w H f.came k)) (λ k. inr (w (ended_saw H f.came.last f.came.left) f.came k)) f.there.2) })
+stops_with FlashFault script W number initial now before after failed S H w f = record { came = f.came; reported = f.reported; limits = f.limits; stood = f.stood; there = (f.there.0, f.there.1, w H f.came f.there.2) }
+stops_with TooMany script W number initial now before after failed S H w f = record { came = f.came; reported = f.reported; limits = f.limits; stood = f.stood; there = (f.there.0, f.there.1, f.there.2, w H f.came f.there.3) }
+stops_with (NoBoard motes boards) script W number initial now before after failed S H w f = record { came = f.came; reported = f.reported; limits = f.limits; stood = f.stood; there = (f.there.0, f.there.1, f.there.2, f.there.3, w H f.came f.there.4) }
+stops_with NoImage script W number initial now before after failed S H w f = record { came = f.came; reported = f.reported; limits = f.limits; stood = f.stood; there = (f.there.0, f.there.1, f.there.2, f.there.3, w (ended_saw H f.came.last f.came.left) f.came f.there.4) }
+stops_with NotAVolume script W number initial now before after failed S H w f = record { came = f.came; reported = f.reported; limits = f.limits; stood = f.stood; there = (f.there.0, f.there.1, w H f.came f.there.2) }
 
 by_rules : (stop : Stop) {S : Type 0} → S → ByRules stop S
 by_rules Memory s = tt
@@ -173,16 +173,16 @@ same_ending table stop input more number s failed =
 ends_same : (table : List Row) (stop : Stop) (input more : List ℕ) (number : ℕ) (initial now : List Device) (before after : Option (List ℕ)) (failed : Type 0) (S H : Saw) → same_ending table stop input more number (span initial now before after S H) failed
 ends_same table Memory input more number initial now before after failed S H f g = tt
 ends_same table (BadInput line fault) input more number initial now before after failed S H f g =
-    stop_ending (BadInput line fault) (has_unused_bytes (input ++ more)) (script_of (input ++ more)) (λ c. IsLeft (span initial now before after S H) c) number initial now before after failed S H f
-    ∙ sym (stop_ending (BadInput line fault) (has_unused_bytes input) (script_of input) (λ c. IsLeft (span initial now before after S H) c) number initial now before after failed S H g)
+    stop_ending (BadInput line fault) (has_unused_bytes (input ++ more)) (script_of (input ++ more)) (λ saw c. IsLeft (span initial now before after S H) saw c) number initial now before after failed S H f
+    ∙ sym (stop_ending (BadInput line fault) (has_unused_bytes input) (script_of input) (λ saw c. IsLeft (span initial now before after S H) saw c) number initial now before after failed S H g)
 ends_same table WriteFault input more number initial now before after failed S H f g = tt
 ends_same table FlashFault input more number initial now before after failed S H f g = tt
 ends_same table TooMany input more number initial now before after failed S H f g =
-    stop_ending TooMany (has_unused_bytes (input ++ more)) (script_of (input ++ more)) (λ c. IsLeft (span initial now before after S H) c) number initial now before after failed S H f
-    ∙ sym (stop_ending TooMany (has_unused_bytes input) (script_of input) (λ c. IsLeft (span initial now before after S H) c) number initial now before after failed S H g)
+    stop_ending TooMany (has_unused_bytes (input ++ more)) (script_of (input ++ more)) (λ saw c. IsLeft (span initial now before after S H) saw c) number initial now before after failed S H f
+    ∙ sym (stop_ending TooMany (has_unused_bytes input) (script_of input) (λ saw c. IsLeft (span initial now before after S H) saw c) number initial now before after failed S H g)
 ends_same table (NoBoard motes boards) input more number initial now before after failed S H f g =
-    stop_ending (NoBoard motes boards) (has_unused_bytes (input ++ more)) (script_of (input ++ more)) (λ c. IsLeft (span initial now before after S H) c) number initial now before after failed S H f
-    ∙ sym (stop_ending (NoBoard motes boards) (has_unused_bytes input) (script_of input) (λ c. IsLeft (span initial now before after S H) c) number initial now before after failed S H g)
+    stop_ending (NoBoard motes boards) (has_unused_bytes (input ++ more)) (script_of (input ++ more)) (λ saw c. IsLeft (span initial now before after S H) saw c) number initial now before after failed S H f
+    ∙ sym (stop_ending (NoBoard motes boards) (has_unused_bytes input) (script_of input) (λ saw c. IsLeft (span initial now before after S H) saw c) number initial now before after failed S H g)
 ends_same table NoImage input more number initial now before after failed S H f g = tt
 ends_same table NotAVolume input more number initial now before after failed S H f g = tt
 
@@ -254,7 +254,7 @@ stopped_part {S = S} law stop a c reads at_end front line text given p q initial
         (
           given + 1,
           omega (arith, ap length (behind_last front text line given f.behind l)),
-          stops_with stop (script_of input) (λ c. (at_end ⊎ IsWholeAt stop input c.done c.rest c.begun) × IsLeft (span initial now before after S H) c) (given + 1) initial now before after worse S H (λ c kept. (inl ended, kept)) (there table),
+          stops_with stop (script_of input) (λ saw c. (at_end ⊎ IsWholeAt stop input c.done c.rest c.begun) × IsLeft (span initial now before after S H) saw c) (given + 1) initial now before after worse S H (λ saw c kept. (inl ended, kept)) (there table),
         ),
       ),
     )

@@ -34,11 +34,11 @@ use Rattle.dg_world.specs.Boards.{WorldStands}
 use Rattle.dg_replay.specs.Boards.{ItemStops, LacksImage, EventNext}
 use Rattle.dg_replay.specs.Playing.{KeepsMotes, ItemsRun, ItemsPlayed, ItemsBegun, ItemsPlayedAs, IsOneTooMany, StopsInItem}
 use Rattle.dg_replay.specs.declared.stop.Stop.{Stop}
-use Rattle.dg_replay.specs.Shown.{Saw, EndShown, LeadTo, IsApplied, IsEnding, StaysSeen, Shows}
+use Rattle.dg_replay.specs.Shown.{Saw, LeadTo, IsApplied, IsEnding, StaysSeen, Shows, going_on, ended_saw}
 use Rattle.dg_replay.specs.Stages.{Told, boards_told}
 use Rattle.dg_replay.specs.declared.stop.Stop.TheVariants.{Memory, BadInput, WriteFault, FlashFault, TooMany, NoBoard, NoImage, NotAVolume}
 use Rattle.dg_replay.proofs.ItemLemmas.{items_run_none, items_run_one, items_run_join, played_one, declared_same, step_counts}
-use Rattle.dg_replay.proofs.ShownLemmas.{shows_none, shows_same, shows_join}
+use Rattle.dg_replay.proofs.ShownLemmas.{stays_same, shows_none, shows_same, shows_then, shows_join, end_more}
 use Rattle.dg_world.proofs.EndureLemmas.{boards_through, board_stops, event_within, sites_same, other_than, stands_next, standing_awake}
 
 -- ---- the boards after an event
@@ -73,7 +73,7 @@ flash_next u x reported more board initial old new few within f b =
       there = record {
         few = few;
         at = f.at;
-        there = record { made = f.done; within = f.within; uncut = f.uncut; leaves = f.leaves };
+        there = record { done = f.done; within = f.within; uncut = f.uncut; leaves = f.leaves };
         others = record {
           all = boards_through initial old new b.all f.boards.count f.boards.endures;
           stands = λ m d inside other is. b.stands m d inside (sym (f.boards.others m other) ∙ is);
@@ -89,12 +89,12 @@ err_is : (x y : Stop) → ◌≡◌ {A = Result (Unit {0}) Stop} (Err x) (Err y)
 err_is x y e = cc
 
 -- nothing was played, and P holds of the world and of all items
-begun_none : (w : World) (items : List Item) (F G : Saw) (P : World → List Item → List ℕ → Type 0) → w.events ≤ most_events → StaysSeen F G → P w items [] → ItemsBegun w items F G P
+begun_none : (w : World) (items : List Item) (F : Saw) (G : Option World → List Item → Saw) (P : World → List Item → List ℕ → Type 0) → w.events ≤ most_events → StaysSeen F (G (Some w) items) → P w items [] → ItemsBegun w items F G P
 begun_none w items F G P few stays there =
-    record { begun = []; left = items; parts = refl; world = w; text = []; runs = items_run_none w few; shown = shows_none F G w stays; there = there }
+    record { begun = []; left = items; parts = refl; world = w; text = []; runs = items_run_none w few; shown = shows_none F (G (Some w) items) w stays; there = there }
 
 -- all was played, and P holds of the world then
-begun_all : (w v : World) (items : List Item) (text : List ℕ) (F G : Saw) (P : World → List Item → List ℕ → Type 0) → (runs : ItemsRun w items v text) → Shows F G w runs.played → P v [] text → ItemsBegun w items F G P
+begun_all : (w v : World) (items : List Item) (text : List ℕ) (F : Saw) (G : Option World → List Item → Saw) (P : World → List Item → List ℕ → Type 0) → (runs : ItemsRun w items v text) → Shows F (G (Some v) []) w runs.played → P v [] text → ItemsBegun w items F G P
 begun_all w v items text F G P runs shown there =
     record { begun = items; left = []; parts = sym (append-nil items); world = v; text = text; runs = runs; shown = shown; there = there }
 
@@ -138,27 +138,27 @@ applied_played w x reported v v2 initial old new before reports report_before to
 
 -- it was applied, and there was no memory to report it
 pub applied_untold : (w : World) (x : Step) (reported : Bool) (v v2 : KeptWorld) (initial old new : List Device) (before reports : List Report) (F G : Saw) → before ≡ [] → MayStep v old x → (a : Applied w x reported (deployed v old before) (deployed v2 new reports)) → Shows F G w (applied_one a reports ∷ []) → IsWorld v old w → WorldStands w initial old
-    → ItemsBegun w (Applies x reported ∷ []) F G (λ u left text. WorldStands u initial new)
+    → ItemsBegun w (Applies x reported ∷ []) F (going_on G) (λ u left text. WorldStands u initial new)
 applied_untold w x reported v v2 initial old new before reports F G none may a shown is stands =
-    begun_all w a.world (Applies x reported ∷ []) (report_text reports) F G (λ u left text. WorldStands u initial new) (applied_runs w x reported v v2 old new before reports none a) shown (applied_stands w x reported v v2 initial old new before reports may is stands a)
+    begun_all w a.world (Applies x reported ∷ []) (report_text reports) F (going_on G) (λ u left text. WorldStands u initial new) (applied_runs w x reported v v2 old new before reports none a) shown (applied_stands w x reported v v2 initial old new before reports may is stands a)
 
 -- there was no memory to apply it
-pub nothing_applied : (w : World) (items : List Item) (v : KeptWorld) (initial old new : List Device) (F G : Saw) → IsWorld v old w → new ≡ old → StaysSeen F G → WorldStands w initial old → ItemsBegun w items F G (λ u left text. WorldStands u initial new)
+pub nothing_applied : (w : World) (items : List Item) (v : KeptWorld) (initial old new : List Device) (F G : Saw) → IsWorld v old w → new ≡ old → StaysSeen F G → WorldStands w initial old → ItemsBegun w items F (going_on G) (λ u left text. WorldStands u initial new)
 nothing_applied w items v initial old new F G is same stays stands =
-    begun_none w items F G (λ u left text. WorldStands u initial new) is.few_events stays (subst (λ (ds : List Device). WorldStands w initial ds) (sym same) stands)
+    begun_none w items F (going_on G) (λ u left text. WorldStands u initial new) is.few_events stays (subst (λ (ds : List Device). WorldStands w initial ds) (sym same) stands)
 
 -- it was one too many
 pub not_applied : (w : World) (x : Step) (reported : Bool) (v : KeptWorld) (initial old new : List Device) (report_before told : Told) → IsWorld v old w → w.events ≡ most_events → new ≡ old → told.text ≡ report_before.text → StaysSeen report_before.saw told.saw → WorldStands w initial old
-    → ItemsBegun w (Applies x reported ∷ []) report_before.saw told.saw (λ u left text. IsOneTooMany u left × WorldStands u initial new × (told.text ≡ report_before.text ++ text))
+    → ItemsBegun w (Applies x reported ∷ []) report_before.saw (going_on told.saw) (λ u left text. IsOneTooMany u left × WorldStands u initial new × (told.text ≡ report_before.text ++ text))
 not_applied w x reported v initial old new report_before told is full same untold stays stands =
-    begun_none w (Applies x reported ∷ []) report_before.saw told.saw (λ u left text. IsOneTooMany u left × WorldStands u initial new × (told.text ≡ report_before.text ++ text)) is.few_events stays
+    begun_none w (Applies x reported ∷ []) report_before.saw (going_on told.saw) (λ u left text. IsOneTooMany u left × WorldStands u initial new × (told.text ≡ report_before.text ++ text)) is.few_events stays
     (record { full = full; next = record { step = x; reported = reported; more = []; is = refl } }, subst (λ (ds : List Device). WorldStands w initial ds) (sym same) stands, untold ∙ sym (append-nil report_before.text))
 
 -- a board stopped in it
 pub stopped_in : (w : World) (x : Step) (reported : Bool) (v : KeptWorld) (board : ℕ) (initial old new : List Device) (report_before told : Told) → MayStep v old x → IsWorld v old w → w.events < most_events → FlashAt w x board old new → told.text ≡ report_before.text → StaysSeen report_before.saw told.saw → WorldStands w initial old
-    → ItemsBegun w (Applies x reported ∷ []) report_before.saw told.saw (λ u left text. StopsInItem u left initial new × (told.text ≡ report_before.text ++ text))
+    → ItemsBegun w (Applies x reported ∷ []) report_before.saw (going_on told.saw) (λ u left text. StopsInItem u left initial new × (told.text ≡ report_before.text ++ text))
 stopped_in w x reported v board initial old new report_before told may is few f untold stays stands =
-    begun_none w (Applies x reported ∷ []) report_before.saw told.saw (λ u left text. StopsInItem u left initial new × (told.text ≡ report_before.text ++ text)) is.few_events stays
+    begun_none w (Applies x reported ∷ []) report_before.saw (going_on told.saw) (λ u left text. StopsInItem u left initial new × (told.text ≡ report_before.text ++ text)) is.few_events stays
     (flash_next w x reported [] board initial old new few (step_within v old w x is may) f stands, untold ∙ sym (append-nil report_before.text))
 
 -- it found no image to start
@@ -176,9 +176,9 @@ ended_stands w x v initial old new may is e b =
           e.boards.others m (other_than m (mote_of x.event) (length w.sites) within far) ∙ b.others m far;
     }
 
-pub ended_in : (w : World) (x : Step) (reported : Bool) (v : KeptWorld) (initial old new : List Device) (text : List ℕ) (F G : Saw) → MayStep v old x → IsWorld v old w → RunEnded w x old new → Shows F G w [] → G.ended x.event → WorldStands w initial old
-    → ItemsBegun w (Applies x reported ∷ []) F G (λ u left t. (LacksImage u left initial new × EndShown G left) × (text ≡ text ++ t))
-ended_in w x reported v initial old new text F G may is e shown last stands = record {
+pub ended_in : (w : World) (x : Step) (reported : Bool) (v : KeptWorld) (initial old new : List Device) (text : List ℕ) (F G : Saw) → MayStep v old x → IsWorld v old w → RunEnded w x old new → Shows F (ended_saw G (Some w) (Applies x reported ∷ [])) w [] → WorldStands w initial old
+    → ItemsBegun w (Applies x reported ∷ []) F (ended_saw G) (λ u left t. LacksImage u left initial new × (text ≡ text ++ t))
+ended_in w x reported v initial old new text F G may is e shown stands = record {
   begun = [];
   left = Applies x reported ∷ [];
   parts = refl;
@@ -187,17 +187,17 @@ ended_in w x reported v initial old new text F G may is e shown last stands = re
   runs = items_run_none w is.few_events;
   shown = shown;
   there = (
-    (record { next = record { step = x; reported = reported; more = []; is = refl }; after = e.world; ends = e.ends; boards = ended_stands w x v initial old new may is e stands }, last),
+    record { next = record { step = x; reported = reported; more = []; is = refl }; after = e.world; ends = e.ends; boards = ended_stands w x v initial old new may is e stands },
     sym (append-nil text),
   );
 }
 
 -- which a watcher was shown as the end
-pub ended_shown : (w : World) (event : Event) (cut : Option PowerCut) (v : KeptWorld) (initial old new : List Device) (F : List Device → Saw) (G : Saw) → MayStep v old (step_of event cut) → IsWorld v old w → WorldStands w initial old → w.events < most_events → RunEnded w (step_of event cut) old new
-    → ((stores : List Store) (events : List Played) (u : World) → LeadTo stores events u → (x : IsEnding u event new) → (F x.before).events stores events → G.events stores events) → Shows (F old) G w []
-ended_shown w event cut v initial old new F G may is stands few e ended = λ stores events lead f.
+pub ended_shown : (w : World) (event : Event) (cut : Option PowerCut) (reported : Bool) (v : KeptWorld) (initial old new : List Device) (F : List Device → Saw) (G : Saw) → MayStep v old (step_of event cut) → IsWorld v old w → WorldStands w initial old → w.events < most_events → RunEnded w (step_of event cut) old new
+    → ((stores : List Store) (events : List Played) (u : World) → LeadTo stores events u → (x : IsEnding u event new) → (F x.before).events stores events → G.ended stores events u (step_of event x.cut)) → Shows (F old) (ended_saw G (Some w) (Applies (step_of event cut) reported ∷ [])) w []
+ended_shown w event cut reported v initial old new F G may is stands few e ended = λ stores events lead f.
     let awake : AreAwake (length e.world.sites) new = standing_awake e.world initial new (ended_stands w (step_of event cut) v initial old new may is e stands) in
-    subst (λ (es : List Played). G.events stores es) (sym (append-nil events)) (ended stores events w lead (record { few = few; cut = cut; after = e.world; ends = e.ends; stand = e.stood; awake = awake; before = old; one = e.boards; calm = e.calm; made = e.made }) f)
+    subst (λ (es : List Played). G.ended stores es w (step_of event cut)) (sym (append-nil events)) (ended stores events w lead (record { few = few; cut = cut; after = e.world; ends = e.ends; stand = e.stood; awake = awake; before = old; one = e.boards; calm = e.calm; made = e.made }) f)
 
 -- it was applied, and this is the outcome of reporting it
 pub told_as : (r : Result (Unit {0}) Stop) (w : World) (x : Step) (reported : Bool) (v v2 : KeptWorld) (initial old new : List Device) (before reports : List Report) (report_before told : Told) → before ≡ [] → MayStep v old x → (a : Applied w x reported (deployed v old before) (deployed v2 new reports)) → Shows report_before.saw told.saw w (applied_one a reports ∷ [])
@@ -269,7 +269,7 @@ pub taken_as : (r : Result (Unit {0}) Stop) (w : World) (row : Row) (v2 : KeptWo
 taken_as (Ok u) w row v2 initial now reports report_before told step is_reported memory stays is stands = declared_played w w row reports v2 initial now report_before told step is is_reported stays stands
 taken_as (Err stop) w row v2 initial now reports report_before told step is_reported memory stays is stands =
     let same : stop ≡ Memory = err_is stop Memory memory in
-    subst (λ (e : Stop). ItemsPlayedAs (Err e) w (Declares row ∷ []) v2 initial report_before (boards_told now told)) (sym same) (begun_none w (Declares row ∷ []) report_before.saw told.saw (λ u left text. WorldStands u initial now) is.few_events stays stands)
+    subst (λ (e : Stop). ItemsPlayedAs (Err e) w (Declares row ∷ []) v2 initial report_before (boards_told now told)) (sym same) (begun_none w (Declares row ∷ []) report_before.saw (going_on told.saw) (λ u left text. WorldStands u initial now) is.few_events stays stands)
 
 -- a row was declared that is not taken: nothing is reported
 pub declared_step : (o : Option Row) (w : World) (row : Row) → row_at w.declared row.image row.version ≡ o → is_taken o row ≡ false → DeclareStep w row (declared_as o w row) []
@@ -292,19 +292,14 @@ lacks_more : (left more : List Item) (w : World) (initial now : List Device) →
 unfolding next_more
 lacks_more left more w initial now h = record { next = next_more left more h.next; after = h.after; ends = h.ends; boards = h.boards }
 
-shown_more : (saw : Saw) (left more : List Item) → EndShown saw left → EndShown saw (left ++ more)
-shown_more saw [] more h = absurd h
-shown_more saw (Declares row ∷ left) more h = absurd h
-shown_more saw (Applies x reported ∷ left) more h = h
-
 stops_more : (left more : List Item) (w : World) (board : ℕ) (image : List ℕ) (old new : List Device) → ItemStops left (Some w) board image old new → ItemStops (left ++ more) (Some w) board image old new
 stops_more [] more w board image old new h = absurd h
 stops_more (Declares row ∷ left) more w board image old new h = absurd h
 stops_more (Applies x reported ∷ left) more w board image old new h = h
 
-begun_later : (w u : World) (xs ys more whole : List Item) (before : List ℕ) (F G H : Saw) (P Q : World → List Item → List ℕ → Type 0) → (a : ItemsRun w xs u before) → Shows F G w a.played → ItemsBegun u ys G H P → whole ≡ xs ++ (ys ++ more)
-    → ((v : World) (left : List Item) (text : List ℕ) → P v left text → Q v (left ++ more) (before ++ text)) → ItemsBegun w whole F H Q
-begun_later w u xs ys more whole before F G H P Q a shown b is f =
+begun_later : (w u : World) (xs ys more whole : List Item) (before : List ℕ) (F G : Saw) (H : Option World → List Item → Saw) (P Q : World → List Item → List ℕ → Type 0) → (a : ItemsRun w xs u before) → Shows F G w a.played → ItemsBegun u ys G H P → whole ≡ xs ++ (ys ++ more)
+    → ((v : World) (left : List Item) → StaysSeen (H (Some v) left) (H (Some v) (left ++ more))) → ((v : World) (left : List Item) (text : List ℕ) → P v left text → Q v (left ++ more) (before ++ text)) → ItemsBegun w whole F H Q
+begun_later w u xs ys more whole before F G H P Q a shown b is keeps f =
     record {
       begun = xs ++ b.begun;
       left = b.left ++ more;
@@ -312,7 +307,7 @@ begun_later w u xs ys more whole before F G H P Q a shown b is f =
       world = b.world;
       text = before ++ b.text;
       runs = items_run_join w u b.world xs b.begun before b.text a b.runs;
-      shown = shows_join F G H w u a.played b.runs.played shown a.run b.shown;
+      shown = shows_join F G (H (Some b.world) (b.left ++ more)) w u a.played b.runs.played shown a.run (shows_then G (H (Some b.world) b.left) (H (Some b.world) (b.left ++ more)) u b.runs.played b.shown (keeps b.world b.left));
       there = f b.world b.left b.text b.there;
     }
 
@@ -334,16 +329,16 @@ pub stopped_later : (stop : Stop) (w : World) (xs ys more whole : List Item) (k 
     → whole ≡ xs ++ (ys ++ more) → ItemsPlayedAs (Err stop) w whole k2 initial t0 (boards_told now t2)
 unfolding next_more
 stopped_later Memory w xs ys more whole k k2 initial mid now t0 t1 t2 a b is =
-    begun_later w a.world xs ys more whole a.text t0.saw t1.saw t2.saw (λ v left text. WorldStands v initial now) (λ v left text. WorldStands v initial now) a.runs a.shown b is (λ v left text h. h)
+    begun_later w a.world xs ys more whole a.text t0.saw t1.saw (going_on t2.saw) (λ v left text. WorldStands v initial now) (λ v left text. WorldStands v initial now) a.runs a.shown b is (λ v left. stays_same t2.saw) (λ v left text h. h)
 stopped_later TooMany w xs ys more whole k k2 initial mid now t0 t1 t2 a b is =
-    begun_later w a.world xs ys more whole a.text t0.saw t1.saw t2.saw (λ v left text. IsOneTooMany v left × WorldStands v initial now × (t2.text ≡ t1.text ++ text)) (λ v left text. IsOneTooMany v left × WorldStands v initial now × (t2.text ≡ t0.text ++ text)) a.runs a.shown b is
-    (λ v left text h. (record { full = h.0.full; next = next_more left more h.0.next }, h.1, h.2 ∙ ap (λ (t : List ℕ). t ++ text) a.report_now ∙ append_assoc t0.text a.text text))
+    begun_later w a.world xs ys more whole a.text t0.saw t1.saw (going_on t2.saw) (λ v left text. IsOneTooMany v left × WorldStands v initial now × (t2.text ≡ t1.text ++ text)) (λ v left text. IsOneTooMany v left × WorldStands v initial now × (t2.text ≡ t0.text ++ text)) a.runs a.shown b is
+    (λ v left. stays_same t2.saw) (λ v left text h. (record { full = h.0.full; next = next_more left more h.0.next }, h.1, h.2 ∙ ap (λ (t : List ℕ). t ++ text) a.report_now ∙ append_assoc t0.text a.text text))
 stopped_later FlashFault w xs ys more whole k k2 initial mid now t0 t1 t2 a b is =
-    begun_later w a.world xs ys more whole a.text t0.saw t1.saw t2.saw (λ v left text. StopsInItem v left initial now × (t2.text ≡ t1.text ++ text)) (λ v left text. StopsInItem v left initial now × (t2.text ≡ t0.text ++ text)) a.runs a.shown b is
-    (λ v left text h. (record { stopped = h.0.stopped; there = stops_more left more v h.0.stopped.board h.0.stopped.after.image initial now h.0.there }, h.1 ∙ ap (λ (t : List ℕ). t ++ text) a.report_now ∙ append_assoc t0.text a.text text))
+    begun_later w a.world xs ys more whole a.text t0.saw t1.saw (going_on t2.saw) (λ v left text. StopsInItem v left initial now × (t2.text ≡ t1.text ++ text)) (λ v left text. StopsInItem v left initial now × (t2.text ≡ t0.text ++ text)) a.runs a.shown b is
+    (λ v left. stays_same t2.saw) (λ v left text h. (record { stopped = h.0.stopped; there = stops_more left more v h.0.stopped.board h.0.stopped.after.image initial now h.0.there }, h.1 ∙ ap (λ (t : List ℕ). t ++ text) a.report_now ∙ append_assoc t0.text a.text text))
 stopped_later NoImage w xs ys more whole k k2 initial mid now t0 t1 t2 a b is =
-    begun_later w a.world xs ys more whole a.text t0.saw t1.saw t2.saw (λ v left text. (LacksImage v left initial now × EndShown t2.saw left) × (t2.text ≡ t1.text ++ text)) (λ v left text. (LacksImage v left initial now × EndShown t2.saw left) × (t2.text ≡ t0.text ++ text)) a.runs a.shown b is
-    (λ v left text h. ((lacks_more left more v initial now h.0.0, shown_more t2.saw left more h.0.1), h.1 ∙ ap (λ (t : List ℕ). t ++ text) a.report_now ∙ append_assoc t0.text a.text text))
+    begun_later w a.world xs ys more whole a.text t0.saw t1.saw (ended_saw t2.saw) (λ v left text. LacksImage v left initial now × (t2.text ≡ t1.text ++ text)) (λ v left text. LacksImage v left initial now × (t2.text ≡ t0.text ++ text)) a.runs a.shown b is
+    (λ v left. end_more t2.saw v left more) (λ v left text h. (lacks_more left more v initial now h.0, h.1 ∙ ap (λ (t : List ℕ). t ++ text) a.report_now ∙ append_assoc t0.text a.text text))
 stopped_later NotAVolume w xs ys more whole k k2 initial mid now t0 t1 t2 a b is = absurd b
 stopped_later (NoBoard motes boards) w xs ys more whole k k2 initial mid now t0 t1 t2 a b is = absurd b
 stopped_later (BadInput n fault) w xs ys more whole k k2 initial mid now t0 t1 t2 a b is = absurd b

@@ -11,6 +11,7 @@ pub mod BusyLemmas
 pub mod TextLemmas
 pub mod NextLineLemmas
 pub mod UntouchedLemmas
+pub mod BegunLemmas
 pub mod ReplayLemmas
 pub mod FinishLemmas
 pub mod FirstLemmas

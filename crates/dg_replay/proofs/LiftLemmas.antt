@@ -23,7 +23,7 @@ use Rattle.dg_replay.specs.Replayed.{Progress, Untouched, item_played, played_te
 use Rattle.dg_replay.specs.Untouched.{IsElsewhere, FormatsNone}
 use Rattle.dg_replay.specs.Replaying.{PlayedUpTo, HasFew, ReportedBefore, IsLeft, StopsThere, StopsInTaken}
 use Rattle.dg_replay.specs.declared.stop.Stop.{Stop}
-use Rattle.dg_replay.specs.Shown.{Saw, EndShown}
+use Rattle.dg_replay.specs.Shown.{Saw, StaysSeen, ended_saw}
 use Rattle.dg_replay.specs.Stages.{span}
 use Rattle.dg_replay.specs.inner.Words.{bytes_taken}
 use Rattle.dg_replay.specs.declared.stop.Stop.TheVariants.{Memory, BadInput, WriteFault, FlashFault, TooMany, NoBoard, NoImage, NotAVolume}
@@ -83,14 +83,14 @@ lacks_on : (last : Option World) (done rest more : List Line) (begun left : List
 lacks_on None done rest more begun left old new e h = h
 lacks_on (Some w) done rest more begun left old new e h = lacks_rest done rest more begun left w old new e h
 
-shown_next : (saw : Saw) (left : List Item) → EndShown saw left → EventNext left
-shown_next saw [] h = absurd h
-shown_next saw (Declares row ∷ left) h = absurd h
-shown_next saw (Applies step reported ∷ left) h = record { step = step; reported = reported; more = left; is = refl }
-
-shown_on : (saw : Saw) (done rest more : List Line) (begun left : List Item) → next_items done rest ≡ begun ++ left → EndShown saw left → EndShown saw (left_of done rest more left)
-shown_on saw done [] more begun left e h = no_items begun left (shown_next saw left h) e
-shown_on saw done (line ∷ rest) more begun left e h = h
+-- a replay that ended at the next item ended there
+end_on : (saw : Saw) (last : Option World) (done rest more : List Line) (begun left : List Item) → next_items done rest ≡ begun ++ left → StaysSeen (ended_saw saw last left) (ended_saw saw last (left_of done rest more left))
+end_on saw last done (line ∷ rest) more begun left e = λ stores events f. f
+end_on saw None done [] more begun left e = λ stores events f. absurd f
+end_on saw (Some w) done [] more begun [] e = λ stores events f. absurd f
+end_on saw (Some w) done [] more begun (Declares row ∷ left) e = λ stores events f. absurd f
+end_on saw (Some w) done [] more begun (Applies step reported ∷ left) e = λ stores events f.
+    no_items begun (Applies step reported ∷ left) (record { step = step; reported = reported; more = left; is = refl }) e
 
 left_there : {table : List Row} {first script : Script} (b : BeginsAs first script) (c : Progress table first) (initial now : List Device) → BoardsLeft status.WriteFault c initial now → BoardsLeft status.WriteFault (lifted b c) initial now
 left_there b c initial now (inl stand) = inl stand
@@ -168,12 +168,20 @@ module _ (front ahead : List ℕ) (is : IsWholeLines front) (few : length front 
     fault_here {table} line fault (same, f) =
         let first : Script = script_from false first_place 1 (lines front) in
         let input : List ℕ = front ++ ahead in
-        let Q : (s : Script) → Progress table s → Type 0 = λ s c. (c.rest ≡ []) × (s.fault ≡ Some (line, fault)) × BoardsStand c.last initial now × HasFew s initial × ((at_end ⊎ DoneIsWhole input c.done c.rest c.begun) × IsLeft (span initial now before after S H) c) in
+        let Q : (s : Script) → Progress table s → Type 0 = λ s c. (c.rest ≡ []) × (s.fault ≡ Some (line, fault)) × BoardsStand c.last initial now × HasFew s initial × ((at_end ⊎ DoneIsWhole input c.done c.rest c.begun) × IsLeft (span initial now before after S H) H c) in
         let P : Script → Type 0 = λ s. PlayedUpTo table s initial before after (Q s) in
         let c = f.came in
         let all : DoneIsWhole input c.done c.rest c.begun = subst (λ (r : List Line). DoneIsWhole input c.done r c.begun) (append-nil c.rest) (done_whole c []) in
         let made : P first = record { came = c; reported = f.reported; limits = f.limits; stood = f.stood; there = (f.there.0, f.there.1, f.there.2, f.there.3, (inr all, f.there.4)) } in
         (same, subst P (sym (begins_here.fault (line, fault) f.there.1)) made)
+
+    -- a watcher saw that the replay goes on, or that it ended
+    cut_here : {table : List Row} (c : Progress table (script_from false first_place 1 (lines front)))
+        → IsLeft (span initial now before after S H) H c ⊎ IsLeft (span initial now before after S H) (ended_saw H c.last c.left) c
+        → ((at_end ⊎ DoneIsWhole (front ++ ahead) c.done (c.rest ++ begins_here.rest) c.begun) × IsLeft (span initial now before after S H) H (lifted begins_here c))
+        ⊎ ((at_end ⊎ DoneIsWhole (front ++ ahead) c.done (c.rest ++ begins_here.rest) c.begun) × IsLeft (span initial now before after S H) (ended_saw H c.last (left_of c.done c.rest begins_here.rest c.left)) (lifted begins_here c))
+    cut_here c (inl (kept, seen)) = inl (inr (done_whole c begins_here.rest), (untouched_lifted begins_here c initial now kept, seen))
+    cut_here c (inr (kept, seen)) = inr (inr (done_whole c begins_here.rest), (untouched_lifted begins_here c initial now kept, λ f. end_on H c.last c.done c.rest begins_here.rest c.begun c.left c.parts _ _ (seen f)))
 
     pub stops_here : (table : List Row) (stop : Stop) → StopsThere table stop (script_from false first_place 1 (lines front)) number (span initial now before after S H) failed
         → (stop ≡ TooMany → lacking (length initial) (script_of (front ++ ahead)).lines ≡ None)
@@ -191,7 +199,7 @@ module _ (front ahead : List ℕ) (is : IsWholeLines front) (few : length front 
         whole = f.whole;
         limits = f.limits;
         stood = f.stood;
-        there = (left_there begins_here f.came initial now f.there.0, told_there begins_here f.came number f.text f.there.1, (inr (done_whole f.came begins_here.rest), (untouched_lifted begins_here f.came initial now f.there.2.0, f.there.2.1)));
+        there = (left_there begins_here f.came initial now f.there.0, told_there begins_here f.came number f.text f.there.1, cut_here f.came f.there.2);
       },
     )
     stops_here table FlashFault f enough =
@@ -241,9 +249,9 @@ module _ (front ahead : List ℕ) (is : IsWholeLines front) (few : length front 
           there = (
             (at.0, at.1 ++ b.rest, ap (λ (ls : List Line). ls ++ b.rest) at.2),
             f.there.1,
-            (lacks_on c.last c.done c.rest b.rest c.begun c.left initial now c.parts f.there.2.0, shown_on H c.done c.rest b.rest c.begun c.left c.parts f.there.2.1),
+            lacks_on c.last c.done c.rest b.rest c.begun c.left initial now c.parts f.there.2,
             λ more. told_there b c number (played_text c.played ++ more) (f.there.3 more),
-            (inr (next_whole c b.rest at.0 at.1 at.2), (untouched_lifted b c initial now f.there.4.0, f.there.4.1)),
+            (inr (next_whole c b.rest at.0 at.1 at.2), (untouched_lifted b c initial now f.there.4.0, λ seen. end_on H c.last c.done c.rest b.rest c.begun c.left c.parts _ _ (f.there.4.1 seen))),
           );
         }
     stops_here table NotAVolume f enough =

@@ -76,7 +76,7 @@ pub text_stopped : {S G : Saw} (law : ImageIsFound) (stop : Stop) (front text : 
 text_stopped law stop front text given p q initial old now before mid after failed worse H spread f kept answer table ends more =
     let r = f.reached table ends (text ∷ more) in
     let script : Script = script_from ends first_place 1 (lines front ++ text ∷ more) in
-    stopped_at {H = H} stop ends script more text (given + 1) p q initial old now before mid after failed worse spread r
+    stopped_at H stop ends script more text (given + 1) p q initial old now before mid after failed worse spread r
     (λ alone. image_found law ends script (text ∷ more) (given + 1) p initial old before mid (script_fits ends first_place 1 (lines front ++ text ∷ more)) r alone text initial now)
     kept (answer r.done r.last table r.stood)
 

@@ -270,8 +270,8 @@ pub items_over : (done : List Line) (ps now : List Played) (items : List Item) �
 items_over done ps now items first next = map-append item_played ps now ∙ ap (λ (xs : List Item). xs ++ map item_played now) first ∙ ap (λ (xs : List Item). items_of done ++ xs) next
 
 -- It began the next line.
-abbrev pub in_line : {table : List Row} {S G H : Saw} {P : Option World → List Item → List ℕ → Type 0} (ends : Bool) (script : Script) (texts : List (List ℕ)) (text : List ℕ) (n : ℕ) (p : Player) (initial old : List Device) (before mid : Option (List ℕ)) (line : Line)
-    → (r : Reached table ends script (text ∷ texts) n p (span initial old before mid S G)) → line_of p.place text ≡ Ok line → (b : LineBegun r.done line r.last G H P) → Over (beginning_of r.ground r.done).world r.played b.begun b.world b.text G H → (b.left ≡ [] → b.begun ≡ []) → Progress table script
+abbrev pub in_line : {table : List Row} {S G : Saw} {H : Option World → List Item → Saw} {P : Option World → List Item → List ℕ → Type 0} (ends : Bool) (script : Script) (texts : List (List ℕ)) (text : List ℕ) (n : ℕ) (p : Player) (initial old : List Device) (before mid : Option (List ℕ)) (line : Line)
+    → (r : Reached table ends script (text ∷ texts) n p (span initial old before mid S G)) → line_of p.place text ≡ Ok line → (b : LineBegun r.done line r.last G H P) → Over (beginning_of r.ground r.done).world r.played b.begun b.world b.text G (H b.world b.left) → (b.left ≡ [] → b.begun ≡ []) → Progress table script
 in_line ends script texts text n p initial old before mid line r spelled b o within =
     record {
       done = r.done;
@@ -289,8 +289,8 @@ in_line ends script texts text n p initial old before mid line r spelled b o wit
       run = o.run;
     }
 
-pub run_of : {table : List Row} {S G H : Saw} {P : Option World → List Item → List ℕ → Type 0} (ends : Bool) (script : Script) (texts : List (List ℕ)) (text : List ℕ) (n : ℕ) (p : Player) (initial old : List Device) (before mid : Option (List ℕ)) (line : Line)
-    → (r : Reached table ends script (text ∷ texts) n p (span initial old before mid S G)) → (b : LineBegun r.done line r.last G H P) → Over (beginning_of r.ground r.done).world r.played b.begun b.world b.text G H
+pub run_of : {table : List Row} {S G : Saw} {H : Option World → List Item → Saw} {P : Option World → List Item → List ℕ → Type 0} (ends : Bool) (script : Script) (texts : List (List ℕ)) (text : List ℕ) (n : ℕ) (p : Player) (initial old : List Device) (before mid : Option (List ℕ)) (line : Line)
+    → (r : Reached table ends script (text ∷ texts) n p (span initial old before mid S G)) → (b : LineBegun r.done line r.last G H P) → Over (beginning_of r.ground r.done).world r.played b.begun b.world b.text G (H b.world b.left)
 run_of ends script texts text n p initial old before mid line r b = over (beginning_of r.ground r.done).world r.last r.played b.begun b.world b.text (begins_first r.ground r.done) r.run b.runs
 
 pub over_tells : {G H : Saw} (o v : Option World) (ps : List Played) (items : List Item) (t : List ℕ) → (x : Over o ps items v t G H) → played_text (ps ++ x.now) ≡ played_text ps ++ t

@@ -22,15 +22,14 @@ use Rattle.dg_replay.specs.Promised.{Headline}
 use Rattle.dg_replay.specs.Done.{IsUnfailed, ReplaysAll, ReplayDone}
 use Rattle.dg_replay.specs.Replayed.{Progress, IsSeen, RunsTo, played_text, Wrote, BoardsLeft, NoVolumeThere, NoImageThere, AreVolumes, IsSettled, AreWhole, AllWhole, NextIsWhole, RestsOnTaken, IsCaused, Replayed}
 use Rattle.dg_replay.specs.inner.Words.{IsComplete}
-use Rattle.dg_replay.specs.Replaying.{Reached, PlayedUpTo, NoImageShown, InputAnswer, StopEnds, EndsWith, IsLeft, ScriptReplayed}
+use Rattle.dg_replay.specs.Replaying.{Reached, PlayedUpTo, InputAnswer, StopEnds, EndsWith, IsLeft, ScriptReplayed}
 use Rattle.dg_replay.specs.declared.halt.Halt.{Halt}
 use Rattle.dg_replay.specs.declared.halt.Halt.TheVariants as halts
 use Rattle.dg_replay.specs.declared.stop.Stop.{Stop}
-use Rattle.dg_replay.specs.Shown.{Saw, EndShown}
+use Rattle.dg_replay.specs.Shown.{Saw}
 use Rattle.dg_replay.specs.Stages.{span, failures}
 use Rattle.dg_replay.specs.inner.Words.{bytes_taken}
 use Rattle.dg_replay.specs.declared.player.Player.{Player}
-use Rattle.dg_replay.proofs.SeenLemmas.{caused_less}
 use Rattle.dg_replay.proofs.EndLemmas.{over_not, is_over-true, over_ends, stopped_ends, in_limits}
 use Rattle.dg_replay.proofs.TakenLemmas.{over_settled, over_done, none_whole, stopped_of_script, known_in_script}
 
@@ -74,7 +73,7 @@ end_replayed {table} {S = S} {G = G} s input at_end old new before after reads w
       stood = r.stood;
       boards = r.boards;
       left = r.left;
-      caused = caused_too s (ending_from (length old) false (script_of input)) reads writes (BoardStopped (motes_in r.came.done) old new) (NoVolumeThere r.came old new) ((UsesBoards r.came.done) × NoImageShown (span old new before after S G) r.came) r.caused;
+      caused = caused_too s (ending_from (length old) false (script_of input)) reads writes (BoardStopped (motes_in r.came.done) old new) (NoVolumeThere r.came old new) ((UsesBoards r.came.done) × NoImageThere r.came old new) r.caused;
     } in
     subst (λ (b : Bool). ScriptReplayed table s (script_of input) (ending_from (length old) b (script_of input)) (bytes_taken input at_end) (span old new before after S G) (failures reads writes)) (sym (over_not input few)) made
 
@@ -90,7 +89,7 @@ over_replayed {table} {S = S} {G = G} s input at_end n p old new before mid afte
 
 -- a read failed
 pub failed_replayed : {table : List Row} {S G : Saw} (input : List ℕ) (at_end : Type 0) (ending : Ending) (old new : List Device) (before after : Option (List ℕ)) (reads writes : Type 0) → reads
-    → PlayedUpTo table (script_of input) old before after (λ c. (c.begun ≡ []) × BoardsStand c.last old new × AreWhole input c.done × AllWhole input c.done × IsLeft (span old new before after S G) c)
+    → PlayedUpTo table (script_of input) old before after (λ c. (c.begun ≡ []) × BoardsStand c.last old new × AreWhole input c.done × AllWhole input c.done × IsLeft (span old new before after S G) G c)
     → ScriptReplayed table ReadFault (script_of input) ending (bytes_taken input at_end) (span old new before after S G) (failures reads writes)
 failed_replayed input at_end ending old new before after reads writes rose f =
     record { came = f.came; text = played_text f.came.played; written = f.reported; report = (refl, f.there.0); read = (f.there.2, f.there.3); near = tt; limits = f.limits; stood = f.stood; boards = f.there.1; left = f.there.4; caused = rose }
@@ -119,15 +118,11 @@ halt_stopped {table} {S = S} {G = G} halt stop s input at_end reads old new befo
     let h : InputAnswer table (Err (halts.Stopped stop)) (bytes_taken input at_end) (span old new before mid S G) (failures reads failed) = subst (λ (x : Halt). InputAnswer table (Err x) (bytes_taken input at_end) (span old new before mid S G) (failures reads failed)) is answer in
     (omega (arith, h.0), stopped_ends stop s (script_of input) (has_unused_bytes input) input at_end h.2.0 old new before mid after failed later reads worse spread widen h.2.1 h.1 h.2.2 done)
 
--- an event found no image to start, where the status says so
-pub caused_image : (s : Status) (e : Ending) (r w b v i : Type 0) → s ≡ NoImage → IsCaused s e r w b v i → i
-caused_image s e r w b v i is h = subst (λ (t : Status). IsCaused t e r w b v i) is h
-
 -- what a replay did, where these bytes were taken
 abbrev pub replayed_of : {table : List Row} {S G : Saw} (s : Status) (bytes : List ℕ) (a b : Outside) → Takes a.input.left b.input.left bytes → length bytes ≤ most_used_bytes + 1
     → ScriptReplayed table s (script_of bytes) (ending_of (length a.boards) bytes) (bytes_taken bytes (AtEnd b.input.left)) (span a.boards b.boards a.output.written b.output.written S G) (failures (Rose a.input.reads b.input.reads) (Rose a.output.writes b.output.writes))
     → (s ≢ ReadFault → b.input.reads ≡ a.input.reads) → (s ≢ WriteFault → b.output.writes ≡ a.output.writes) → Replayed table s a b
-replayed_of {G = G} s bytes a b taken few r reads writes =
+replayed_of s bytes a b taken few r reads writes =
     record {
       input = bytes;
       taken = taken;
@@ -142,8 +137,7 @@ replayed_of {G = G} s bytes a b taken few r reads writes =
       stood = r.stood;
       boards = r.boards;
       untouched = r.left.0;
-      caused = caused_less s (ending_of (length a.boards) bytes) (Rose a.input.reads b.input.reads) (Rose a.output.writes b.output.writes) (BoardStopped (motes_in r.came.done) a.boards b.boards) (NoVolumeThere r.came a.boards b.boards)
-          (UsesBoards r.came.done × (NoImageThere r.came a.boards b.boards × EndShown G r.came.left)) (UsesBoards r.came.done × NoImageThere r.came a.boards b.boards) (λ i. (i.0, i.1.0)) r.caused;
+      caused = r.caused;
       read_faults = reads;
       write_faults = writes;
     }

@@ -20,7 +20,7 @@ use Rattle.dg_replay.specs.Items.{StartState, Beginning, begin_by, begin_behind,
 use Rattle.dg_replay.specs.inner.Words.{no_beginning, with_link, with_narrow}
 use Rattle.dg_replay.specs.Replayed.{RunsTo, item_played}
 use Rattle.dg_replay.specs.Playing.{IsDeclaration}
-use Rattle.dg_replay.specs.Shown.{Saw, events_played, stores_in, LeadTo, StaysSeen, StaysUnshown, Shows, HaveRested}
+use Rattle.dg_replay.specs.Shown.{Saw, events_played, stores_in, LeadTo, StaysSeen, StaysUnshown, Shows, HaveRested, ended_saw}
 use Rattle.dg_replay.proofs.ItemLemmas.{some_is, events_among-append, plays_counts, plays_append, runs_from_none}
 
 -- ---- the events among what was played
@@ -150,10 +150,19 @@ shows_none F G w stays = λ stores events lead f. subst (λ (es : List Played). 
 pub shows_same : (F : Saw) (w : World) → Shows F F w []
 shows_same F w = shows_none F F w (stays_same F)
 
+pub shows_then : (F G H : Saw) (w : World) (ps : List Played) → Shows F G w ps → StaysSeen G H → Shows F H w ps
+shows_then F G H w ps shown stays = λ stores events lead f. stays stores (events ++ events_played ps) (shown stores events lead f)
+
 pub shows_join : (F G H : Saw) (w u : World) (xs ys : List Played) → Shows F G w xs → Plays w xs u → Shows G H u ys → Shows F H w (xs ++ ys)
 shows_join F G H w u xs ys first run next = λ stores events lead f.
     subst (λ (es : List Played). H.events stores es) (append_assoc events (events_played xs) (events_played ys) ∙ ap (λ (es : List Played). events ++ es) (sym (events_played-append xs ys)))
     (next stores (events ++ events_played xs) (lead_on stores events w u xs lead run) (first stores events lead f))
+
+-- a replay that ended at the first of some items ended at the first of more
+pub end_more : (saw : Saw) (w : World) (left more : List Item) → StaysSeen (ended_saw saw (Some w) left) (ended_saw saw (Some w) (left ++ more))
+end_more saw w [] more = λ stores events f. absurd f
+end_more saw w (Declares row ∷ left) more = λ stores events f. absurd f
+end_more saw w (Applies x reported ∷ left) more = λ stores events f. f
 
 -- what is shown before there is a world
 pub shows_nothing : (F G : Saw) (o : Option World) (ps : List Played) → RunsTo o ps None → (F.events [] [] → G.events [] []) → F.events (stores_in o) (events_played ps) → G.events [] []

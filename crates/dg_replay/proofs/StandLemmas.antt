@@ -28,7 +28,7 @@ use Rattle.dg_replay.specs.Items.{StartState, no_start_state, Beginning, begin_b
 use Rattle.dg_replay.specs.inner.Words.{no_beginning, golden_world, with_link, with_narrow}
 use Rattle.dg_replay.specs.Replayed.{IsGround, RunsTo, item_played, played_text}
 use Rattle.dg_replay.specs.Playing.{IsDeclaration, Seated, InWorld, Joined, Stood, ItemsRun, ItemsBegun, LineRuns, LineBegun, Grounded}
-use Rattle.dg_replay.specs.Shown.{Saw, events_played, stores_in, StaysSeen, StaysUnshown, Shows}
+use Rattle.dg_replay.specs.Shown.{Saw, events_played, stores_in, StaysSeen, StaysUnshown, Shows, going_on}
 use Rattle.dg_replay.specs.Stages.{line_told}
 use Rattle.dg_replay.specs.declared.player.Player.{Player}
 use Rattle.dg_replay.proofs.ItemLemmas.{some_is, items_next, place_next, begin_next, motes_same, runs_append, runs_from_none, plays_none, played_more, items_run_none}
@@ -366,19 +366,19 @@ few_in None p now kept = tt
 few_in (Some w) p now kept = kept.0.few_events
 
 -- nothing of it was played
-pub none_begun : {F G : Saw} {Q : Option World → List Item → List ℕ → Type 0} (p : Player) (done : List Line) (line : Line) (w : Option World) (now : List Device) → InWorld p w now → StaysSeen F G → Q w (item_by (place_behind first_place done) line) [] → LineBegun done line w F G Q
+pub none_begun : {F G : Saw} {Q : Option World → List Item → List ℕ → Type 0} (p : Player) (done : List Line) (line : Line) (w : Option World) (now : List Device) → InWorld p w now → StaysSeen F G → Q w (item_by (place_behind first_place done) line) [] → LineBegun done line w F (going_on G) Q
 none_begun {F} {G} {Q} p done line w now kept stays there = from w (few_in w p now kept) there
   where
-    from : (v : Option World) → IfSome v (λ u. u.events ≤ most_events) → Q v (item_by (place_behind first_place done) line) [] → LineBegun done line v F G Q
+    from : (v : Option World) → IfSome v (λ u. u.events ≤ most_events) → Q v (item_by (place_behind first_place done) line) [] → LineBegun done line v F (going_on G) Q
     from None few at = record { begun = []; left = _; parts = refl; world = None; text = []; runs = (refl, refl, refl, stays [] []); there = at }
     from (Some u) few at = record { begun = []; left = _; parts = refl; world = Some u; text = []; runs = (u, refl, items_run_none u few, shows_none F G u stays); there = at }
 
 -- nothing of it was played, and the boards are not used yet
-pub unplaced_begun : {F G : Saw} {Q : Option World → List Item → List ℕ → Type 0} (done : List Line) (line : Line) → StaysUnshown F G → Q None (item_by (place_behind first_place done) line) [] → LineBegun done line None F G Q
+pub unplaced_begun : {F G : Saw} {Q : Option World → List Item → List ℕ → Type 0} (done : List Line) (line : Line) → StaysUnshown F G → Q None (item_by (place_behind first_place done) line) [] → LineBegun done line None F (going_on G) Q
 unplaced_begun done line stays there = record { begun = []; left = _; parts = refl; world = None; text = []; runs = (refl, refl, refl, stays); there = there }
 
 -- its items were
-pub line_begun : {F G : Saw} {P : World → List Item → List ℕ → Type 0} {Q : Option World → List Item → List ℕ → Type 0} (done : List Line) (line : Line) (w : World) (items : List Item) → item_by (place_behind first_place done) line ≡ items → (b : ItemsBegun w items F G P)
+pub line_begun : {F : Saw} {G : Option World → List Item → Saw} {P : World → List Item → List ℕ → Type 0} {Q : Option World → List Item → List ℕ → Type 0} (done : List Line) (line : Line) (w : World) (items : List Item) → item_by (place_behind first_place done) line ≡ items → (b : ItemsBegun w items F G P)
     → (P b.world b.left b.text → Q (Some b.world) b.left b.text) → LineBegun done line (Some w) F G Q
 line_begun done line w items are b then_there =
     record { begun = b.begun; left = b.left; parts = are ∙ b.parts; world = Some b.world; text = b.text; runs = (b.world, refl, b.runs, b.shown); there = then_there b.there }

@@ -25,7 +25,7 @@ same_stop : (s t : Stop) → ◌≡◌ {A = Result (Unit {0}) Stop} (Err s) (Err
 same_stop s t e = cc
 
 -- what holds where a line was begun, and follows
-begun_then : {done : List Line} {line : Line} {w : Option World} {F G : Saw} {P Q : Option World → List Item → List ℕ → Type 0} → ((v : Option World) (left : List Item) (t : List ℕ) → P v left t → Q v left t) → LineBegun done line w F G P → LineBegun done line w F G Q
+begun_then : {done : List Line} {line : Line} {w : Option World} {F : Saw} {G : Option World → List Item → Saw} {P Q : Option World → List Item → List ℕ → Type 0} → ((v : Option World) (left : List Item) (t : List ℕ) → P v left t → Q v left t) → LineBegun done line w F G P → LineBegun done line w F G Q
 begun_then f b = record { begun = b.begun; left = b.left; parts = b.parts; world = b.world; text = b.text; runs = b.runs; there = f b.world b.left b.text b.there }
 
 -- a line was played, and what is reported of it was written, or a prefix of it
@@ -67,7 +67,7 @@ begun_as table NoImage result text number p q done w initial old new before afte
       inr (record {
         line = line;
         spelled = spelled;
-        there = begun_then (λ v left t h. inr (inr (subst (λ (xs : List ℕ). xs ≢ []) h.1 some, h.0.0, subst (λ (xs : List ℕ). PutsPrefix before after xs) h.1 cut))) played;
+        there = inr (begun_then (λ v left t h. (subst (λ (xs : List ℕ). xs ≢ []) h.1 some, h.0, subst (λ (xs : List ℕ). PutsPrefix before after xs) h.1 cut)) played);
       }),
     )
 begun_as table FlashFault result text number p q done w initial old new before after failed F G line told spelled played (inl (is, put)) =
@@ -84,7 +84,7 @@ begun_as table FlashFault result text number p q done w initial old new before a
       inr (record {
         line = line;
         spelled = spelled;
-        there = begun_then (λ v left t h. inl (subst (λ (xs : List ℕ). xs ≢ []) h.1 some, h.0, subst (λ (xs : List ℕ). PutsPrefix before after xs) h.1 cut)) played.1;
+        there = inl (begun_then (λ v left t h. inl (subst (λ (xs : List ℕ). xs ≢ []) h.1 some, h.0, subst (λ (xs : List ℕ). PutsPrefix before after xs) h.1 cut)) played.1);
       }),
     )
 begun_as table TooMany result text number p q done w initial old new before after failed F G line told spelled played (inl (is, put)) =
@@ -101,7 +101,7 @@ begun_as table TooMany result text number p q done w initial old new before afte
       inr (record {
         line = line;
         spelled = spelled;
-        there = begun_then (λ v left t h. inr (inl (h.0, h.1, subst (λ (xs : List ℕ). PutsPrefix before after xs) h.2 cut))) played;
+        there = inl (begun_then (λ v left t h. inr (h.0, h.1, subst (λ (xs : List ℕ). PutsPrefix before after xs) h.2 cut)) played);
       }),
     )
 begun_as table (BadInput n f) result text number p q done w initial old new before after failed F G line told spelled played written = absurd played

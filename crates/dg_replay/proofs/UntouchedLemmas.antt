@@ -20,8 +20,8 @@ use Rattle.dg_replay.proofs.BytesLemmas.{keep_same, keep_then, untouched_done, u
 use Rattle.dg_replay.proofs.NextLineLemmas.{Over, at_line, in_line}
 
 -- boards keep their bytes where a line was begun
-pub kept_begun : {table : List Row} {S G H : Saw} {P : Option World → List Item → List ℕ → Type 0} (ends : Bool) (script : Script) (texts : List (List ℕ)) (text : List ℕ) (n : ℕ) (p : Player) (initial old now : List Device) (before mid : Option (List ℕ)) (line : Line)
-    → (r : Reached table ends script (text ∷ texts) n p (span initial old before mid S G)) → TextKeepsBytes p.place text old now → (spelled : line_of p.place text ≡ Ok line) → (b : LineBegun r.done line r.last G H P) → (o : Over (beginning_of r.ground r.done).world r.played b.begun b.world b.text G H) → (within : b.left ≡ [] → b.begun ≡ [])
+pub kept_begun : {table : List Row} {S G : Saw} {H : Option World → List Item → Saw} {P : Option World → List Item → List ℕ → Type 0} (ends : Bool) (script : Script) (texts : List (List ℕ)) (text : List ℕ) (n : ℕ) (p : Player) (initial old now : List Device) (before mid : Option (List ℕ)) (line : Line)
+    → (r : Reached table ends script (text ∷ texts) n p (span initial old before mid S G)) → TextKeepsBytes p.place text old now → (spelled : line_of p.place text ≡ Ok line) → (b : LineBegun r.done line r.last G H P) → (o : Over (beginning_of r.ground r.done).world r.played b.begun b.world b.text G (H b.world b.left)) → (within : b.left ≡ [] → b.begun ≡ [])
     → Untouched (in_line ends script texts text n p initial old before mid line r spelled b o within) initial now
 kept_begun ends script texts text n p initial old now before mid line r kept spelled b o within =
     untouched_line (in_line ends script texts text n p initial old before mid line r spelled b o within) line _ p.place initial old now refl r.stood.place r.untouched (kept line spelled)

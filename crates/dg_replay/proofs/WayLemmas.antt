@@ -20,24 +20,22 @@ use Rattle.dg_script.specs.declared.place.Place.{Place}
 use Rattle.dg_outside.specs.Outside.{Outside}
 use Rattle.dg_replay.specs.Done.{ReplayDone}
 use Rattle.dg_replay.specs.Ending.{ending_of, script_of}
-use Rattle.dg_replay.specs.Items.{UsesBoards, motes_in}
-use Rattle.dg_world.specs.Boards.{BoardStopped}
 use Rattle.dg_replay.specs.Following.{GivenPlayed, NextPlayed, AllAsBefore}
-use Rattle.dg_replay.specs.Replayed.{Replayed, IsSeen, IsEndSeen, NoVolumeThere, NoImageThere}
+use Rattle.dg_replay.specs.Replayed.{Replayed, IsSeenAs}
 use Rattle.dg_replay.specs.Playing.{Stood, PlayedLine, PlayedAs, gone_on}
 use Rattle.dg_replay.specs.Replaying.{NotFound, BegunWritten, StopEnds, ScriptReplayed}
 use Rattle.dg_replay.specs.declared.halt.Halt.{Halt}
 use Rattle.dg_replay.specs.declared.halt.Halt.TheVariants.{Stopped}
 use Rattle.dg_replay.specs.declared.player.Player.{Player}
 use Rattle.dg_replay.specs.declared.stop.Stop.{Stop}
-use Rattle.dg_replay.specs.Shown.{Saw, EndShown, StaysSeen}
+use Rattle.dg_replay.specs.Shown.{Saw, StaysSeen}
 use Rattle.dg_replay.specs.Stages.{based_on, DoneSoFar, done_so_far, Told, told_so_far, boards_told, ReplayState, replay_state, span, failures}
 use Rattle.dg_replay.specs.inner.Words.{bytes_taken}
 use Rattle.dg_replay.specs.declared.stop.Stop.TheVariants.{Memory, WriteFault}
 use Rattle.dg_replay.specs.Untouched.{LineKeepsBytes}
 use Rattle.dg_replay.proofs.BytesLemmas.{text_keeps, text_same}
 use Rattle.dg_replay.proofs.FollowingLemmas.{TextPlays, given_next}
-use Rattle.dg_replay.proofs.RunLemmas.{HeadlineLaw, replay_done, replayed_of, caused_image}
+use Rattle.dg_replay.proofs.RunLemmas.{HeadlineLaw, replay_done, replayed_of}
 use Rattle.dg_replay.proofs.SilentLemmas.{nothing_played, cut_played, stop_as}
 use Rattle.dg_replay.proofs.TextLemmas.{told_as, begun_as, not_found_as}
 
@@ -116,14 +114,10 @@ replay_ended s a b law bytes taken came reads writes = replay_done s a b law (λ
 -- and a watcher saw the events that were played
 pub replay_seen : {F G : Saw} (s : Status) (a b : Outside) (bytes : List ℕ) → Takes a.input.left b.input.left bytes
     → ((table : List Row) → (length bytes ≤ most_used_bytes + 1) × ScriptReplayed table s (script_of bytes) (ending_of (length a.boards) bytes) (bytes_taken bytes (AtEnd b.input.left)) (span a.boards b.boards a.output.written b.output.written F G) (failures (Rose a.input.reads b.input.reads) (Rose a.output.writes b.output.writes)))
-    → (s ≢ status.ReadFault → b.input.reads ≡ a.input.reads) → (s ≢ status.WriteFault → b.output.writes ≡ a.output.writes) → (table : List Row) → F.events [] [] → (x : Replayed table s a b) × IsSeen G x.came × IsEndSeen s G x.came
-replay_seen {G = G} s a b bytes taken came reads writes table f =
-    let r = came table in (
-      replayed_of s bytes a b taken r.0 r.1 reads writes,
-      r.1.left.1 f,
-      λ is. (caused_image s (ending_of (length a.boards) bytes) (Rose a.input.reads b.input.reads) (Rose a.output.writes b.output.writes) (BoardStopped (motes_in r.1.came.done) a.boards b.boards) (NoVolumeThere r.1.came a.boards b.boards)
-          (UsesBoards r.1.came.done × (NoImageThere r.1.came a.boards b.boards × EndShown G r.1.came.left)) is r.1.caused).1.1,
-    )
+    → (s ≢ status.ReadFault → b.input.reads ≡ a.input.reads) → (s ≢ status.WriteFault → b.output.writes ≡ a.output.writes) → (table : List Row) → F.events [] [] → (x : Replayed table s a b) × IsSeenAs s G x.came
+replay_seen s a b bytes taken came reads writes table f =
+    let r = came table in
+    (replayed_of s bytes a b taken r.0 r.1 reads writes, r.1.left.1 f)
 
 -- a replay that does not end with WriteFault did not stop at a write
 pub stopped_unfailed : (halt : Halt) (stop : Stop) (s : Status) (before after : Option (List ℕ)) (failed : Type 0) → halt ≡ Stopped stop → StopEnds stop s before after failed → s ≢ status.WriteFault → ◌≢◌ {A = Result (Player × ℕ) Halt} (Err halt) (Err (Stopped WriteFault))

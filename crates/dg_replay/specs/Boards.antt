@@ -43,10 +43,10 @@ pub record OthersFormatted (chip : Store) (board : ℕ) (old new : List Device) 
 
 -- A board that goes through these stores stopped after some of the operations, and before any cut.
 pub record StopsOn (trail : Trail Store) (cut : Option CutOfPower) (image : List ℕ) : Type 0 where
-  pub made : ℕ
-  pub within : made ≤ operations trail
-  pub uncut : IfSome cut (λ c. made ≤ c.after - 1)
-  pub leaves : MayLeave Stands IsNear trail made image
+  pub done : ℕ
+  pub within : done ≤ operations trail
+  pub uncut : IfSome cut (λ c. done ≤ c.after - 1)
+  pub leaves : MayLeave Stands IsNear trail done image
 
 -- The boards were only read up to this one, which stopped. Those before it are volumes, and were not stopped on entry. Those
 -- after it are as before.

@@ -32,7 +32,7 @@ use Rattle.dg_replay.specs.Boards.{LacksImage}
 use Rattle.dg_script.specs.Items.{Item, Declares, Applies, item_by, items_of, place_behind}
 use Rattle.dg_replay.specs.Items.{StartState, UsesBoards, beginning_of, motes_in, lacking_by}
 use Rattle.dg_replay.specs.Replayed.{IsGround, item_played, played_text, RunsTo}
-use Rattle.dg_replay.specs.Shown.{Saw, Shows, EndShown, StaysSeen, StaysUnshown, GoesOnSeen}
+use Rattle.dg_replay.specs.Shown.{Saw, Shows, StaysSeen, StaysUnshown, GoesOnSeen, going_on, ended_saw}
 use Rattle.dg_replay.specs.Stages.{Baseline, based_on, DoneSoFar, Told, LineTold, line_told, BoardsTold}
 use Rattle.dg_replay.specs.declared.player.Player.{Player}
 use Rattle.dg_replay.specs.declared.stop.Stop.{Stop}
@@ -61,9 +61,9 @@ pub record ItemsPlayed (w : World) (items : List Item) (kept : KeptWorld) (initi
   pub report_now : told.text ≡ told_before.text ++ text
   pub shown : Shows told_before.saw told.saw w runs.played
 
--- The first of these items were played, and a watcher was shown this. P holds of the world after them, of the items that are
+-- The first of these items were played, and a watcher was shown them. P holds of the world after them, of the items that are
 -- left, and of what is reported of those that were played.
-pub record ItemsBegun (w : World) (items : List Item) (before after : Saw)
+pub record ItemsBegun (w : World) (items : List Item) (before : Saw) (after : Option World → (left : List Item) → Saw)
     (P : World → (left : List Item) → (text : List ℕ) → Type 0) : Type 0 where
   pub begun : List Item
   pub left : List Item
@@ -71,17 +71,13 @@ pub record ItemsBegun (w : World) (items : List Item) (before after : Saw)
   pub world : World
   pub text : List ℕ
   pub runs : ItemsRun w begun world text
-  pub shown : Shows before after w runs.played
+  pub shown : Shows before (after (Some world) left) w runs.played
   pub there : P world left text
 
 -- an event was not played, since there were a million before it
 pub record IsOneTooMany (w : World) (left : List Item) : Type 0 where
   pub full : w.events ≡ most_events
   pub next : EventNext left
-
--- the first of the items that are left is an event that found no image to start, which a watcher was shown
-abbrev pub LacksShown : Saw → Option World → (left : List Item) → (initial now : List Device) → Type 0
-LacksShown saw v left initial now = InSome v (λ u. LacksImage u left initial now) × EndShown saw left
 
 -- a board stopped in the first of the items that are left
 pub record StopsInItem (w : World) (left : List Item) (initial now : List Device) : Type 0 where
@@ -94,15 +90,15 @@ abbrev pub ItemsPlayedAs : Result (Unit {0}) Stop → World → List Item → Ke
     → (before : Told) → (b : BoardsTold) → Type 0
 ItemsPlayedAs (Ok u) w items kept initial before b = ItemsPlayed w items kept initial b.boards before b.told
 ItemsPlayedAs (Err Memory) w items kept initial before b =
-    ItemsBegun w items before.saw b.told.saw (λ v left text. WorldStands v initial b.boards)
+    ItemsBegun w items before.saw (going_on b.told.saw) (λ v left text. WorldStands v initial b.boards)
 ItemsPlayedAs (Err TooMany) w items kept initial before b =
-    ItemsBegun w items before.saw b.told.saw (λ v left text. IsOneTooMany v left × WorldStands v initial b.boards
+    ItemsBegun w items before.saw (going_on b.told.saw) (λ v left text. IsOneTooMany v left × WorldStands v initial b.boards
     × (b.told.text ≡ before.text ++ text))
 ItemsPlayedAs (Err FlashFault) w items kept initial before b =
-    ItemsBegun w items before.saw b.told.saw (λ v left text. StopsInItem v left initial b.boards
+    ItemsBegun w items before.saw (going_on b.told.saw) (λ v left text. StopsInItem v left initial b.boards
     × (b.told.text ≡ before.text ++ text))
 ItemsPlayedAs (Err NoImage) w items kept initial before b =
-    ItemsBegun w items before.saw b.told.saw (λ v left text. (LacksImage v left initial b.boards × EndShown b.told.saw left)
+    ItemsBegun w items before.saw (ended_saw b.told.saw) (λ v left text. LacksImage v left initial b.boards
     × (b.told.text ≡ before.text ++ text))
 ItemsPlayedAs (Err NotAVolume) w items kept initial before b = ⊥
 ItemsPlayedAs (Err (NoBoard motes boards)) w items kept initial before b = ⊥
@@ -220,16 +216,17 @@ RunsFrom None items v told = (items ≡ []) × (v ≡ None) × (told.text ≡ []
 RunsFrom (Some w) items v told =
     (u : World) × (v ≡ Some u) × (x : ItemsRun w items u told.text) × Shows told.before told.after w x.played
 
--- A line after others was begun: the first of its items were played, and a watcher was shown this. P holds of the world after
+-- A line after others was begun: the first of its items were played, and a watcher was shown them. P holds of the world after
 -- them, of the items that are left, and of what is reported of those that were played.
-pub record LineBegun (done : List Line) (line : Line) (w : Option World) (before after : Saw)
+pub record LineBegun (done : List Line) (line : Line) (w : Option World) (before : Saw)
+    (after : Option World → (left : List Item) → Saw)
     (P : Option World → (left : List Item) → (text : List ℕ) → Type 0) : Type 0 where
   pub begun : List Item
   pub left : List Item
   pub parts : item_by (place_behind first_place done) line ≡ begun ++ left
   pub world : Option World
   pub text : List ℕ
-  pub runs : RunsFrom w begun world (line_told text before after)
+  pub runs : RunsFrom w begun world (line_told text before (after world left))
   pub there : P world left text
 
 -- the line that says how many motes there are was not played, since boards are missing
@@ -244,18 +241,19 @@ pub record LacksBoards (line : Line) (motes boards : ℕ) (initial old new : Lis
 abbrev pub PlayedAs : Baseline → Result (Unit {0}) Stop → Player → (behind : DoneSoFar) → Line → (a b : BoardsTold) → Type 0
 PlayedAs basis (Ok u) q behind line a b = PlayedLine basis q behind line a.told b
 PlayedAs basis (Err Memory) q behind line a b =
-    LineBegun behind.lines line behind.world a.told.saw b.told.saw (λ v left text. BoardsStand v basis.boards b.boards)
+    LineBegun behind.lines line behind.world a.told.saw (going_on b.told.saw)
+    (λ v left text. BoardsStand v basis.boards b.boards)
 PlayedAs basis (Err (NoBoard motes boards)) q behind line a b =
     LacksBoards line motes boards basis.boards a.boards b.boards × StaysSeen a.told.saw b.told.saw
 PlayedAs basis (Err FlashFault) q behind line a b = UsesBoard line
-    × LineBegun behind.lines line behind.world a.told.saw b.told.saw (λ v left text.
+    × LineBegun behind.lines line behind.world a.told.saw (going_on b.told.saw) (λ v left text.
     StoppedIn (motes_in behind.lines) (line ∷ []) left v basis.boards b.boards × (b.told.text ≡ a.told.text ++ text))
 PlayedAs basis (Err TooMany) q behind line a b =
-    LineBegun behind.lines line behind.world a.told.saw b.told.saw (λ v left text. InSome v (λ u. IsOneTooMany u left)
+    LineBegun behind.lines line behind.world a.told.saw (going_on b.told.saw) (λ v left text. InSome v (λ u. IsOneTooMany u left)
     × BoardsStand v basis.boards b.boards × (b.told.text ≡ a.told.text ++ text))
 PlayedAs basis (Err NoImage) q behind line a b =
-    LineBegun behind.lines line behind.world a.told.saw b.told.saw (λ v left text.
-    LacksShown b.told.saw v left basis.boards b.boards × (b.told.text ≡ a.told.text ++ text))
+    LineBegun behind.lines line behind.world a.told.saw (ended_saw b.told.saw) (λ v left text.
+    InSome v (λ u. LacksImage u left basis.boards b.boards) × (b.told.text ≡ a.told.text ++ text))
 PlayedAs basis (Err NotAVolume) q behind line a b =
     (line ≡ Boards) × NoVolumeIn (motes_in behind.lines) basis.boards b.boards × StaysSeen a.told.saw b.told.saw
 PlayedAs basis (Err (BadInput n fault)) q behind line a b = ⊥

@@ -33,7 +33,7 @@ use Rattle.dg_world.specs.Boards.{BoardStopped}
 use Rattle.dg_replay.specs.Boards.{BoardsStand, StoppedIn, EventNext, InSome, NoVolumeIn, LacksImage}
 use Rattle.dg_replay.specs.Items.{StartState, UsesBoards, beginning_of, motes_in, next_items, events_among}
 use Rattle.dg_outside.specs.Outside.{Outside}
-use Rattle.dg_replay.specs.Shown.{Saw, EndShown, stores_in, events_played}
+use Rattle.dg_replay.specs.Shown.{Saw, ended_saw, stores_in, events_played}
 use Rattle.dg_replay.specs.Stages.{BytesTaken}
 use Rattle.dg_replay.specs.Ending.{Ending, Ends, NoBoards, TooManyEvents, FaultAt, InBounds, whole_lines, ending_of}
 use Rattle.dg_replay.specs.Ending.{ending_line, ending_status, script_of}
@@ -82,9 +82,15 @@ pub record Progress (table : List Row) (script : Script) : Type 0 where
 abbrev pub IsSeen : {table : List Row} {script : Script} → Saw → Progress table script → Type 0
 IsSeen saw c = saw.events (stores_in (beginning_of c.ground c.done).world) (events_played c.played)
 
--- where the replay ended with this status since an event found no image to start, a watcher was shown that
-abbrev pub IsEndSeen : {table : List Row} {script : Script} → Status → Saw → Progress table script → Type 0
-IsEndSeen status saw c = status ≡ NoImage → EndShown saw c.left
+-- the same if the next event found no image to start, which the watcher saw to end the replay
+abbrev pub IsEndSeen : {table : List Row} {script : Script} → Saw → Progress table script → Type 0
+IsEndSeen saw c = IsSeen (ended_saw saw c.last c.left) c
+
+-- What it saw, by the status with which the replay ended. After a write that failed it may have been either.
+abbrev pub IsSeenAs : {table : List Row} {script : Script} → Status → Saw → Progress table script → Type 0
+IsSeenAs NoImage saw c = IsEndSeen saw c
+IsSeenAs WriteFault saw c = IsSeen saw c ⊎ IsEndSeen saw c
+IsSeenAs status saw c = IsSeen saw c
 
 -- the end of a report
 abbrev pub closing : Ending → Option World → List ℕ

@@ -27,16 +27,16 @@ use Rattle.dg_replay.specs.Ending.{Ending, NoBoards, TooManyEvents, FaultAt, scr
 use Rattle.dg_replay.specs.Near.{behind_lines, FewBytesBehind}
 use Rattle.dg_replay.specs.Untouched.{KeepBytes, FormatsNone}
 use Rattle.dg_replay.specs.Replayed.{Progress, ReachesEnding, AtTooMany, closing, Wrote, BoardsLeft, BoardStoppedThere, IsCaused}
-use Rattle.dg_replay.specs.Replayed.{Untouched, IsSeen}
+use Rattle.dg_replay.specs.Replayed.{Untouched, IsSeen, IsSeenAs}
 use Rattle.dg_replay.specs.Replayed.{RunsTo, item_played, played_text, IsSettled, AreWhole, AllWhole}
 use Rattle.dg_replay.specs.inner.Words.{report_of_lines}
 use Rattle.dg_replay.specs.Replayed.{NextIsWhole}
 use Rattle.dg_replay.specs.Replayed.{DoneIsWhole, RestsOnTaken, ReadsNear, NoVolumeThere, NoImageThere, no_volume_line}
 use Rattle.dg_replay.specs.Replayed.{no_image_line}
-use Rattle.dg_replay.specs.Shown.{Saw, EndShown, StaysSeen, stores_in, events_played}
+use Rattle.dg_replay.specs.Shown.{Saw, StaysSeen, going_on, ended_saw, stores_in, events_played}
 use Rattle.dg_replay.specs.Stages.{Baseline, DoneSoFar, ReplayState, LineRead, Span, BytesTaken, Failures, told_so_far}
 use Rattle.dg_replay.specs.Stages.{boards_told, span_between}
-use Rattle.dg_replay.specs.Playing.{Stood, PlayedLine, LineBegun, IsOneTooMany, LacksShown, LacksBoards, Grounded}
+use Rattle.dg_replay.specs.Playing.{Stood, PlayedLine, LineBegun, IsOneTooMany, LacksBoards, Grounded}
 use Rattle.dg_replay.specs.declared.player.Player.{Player}
 use Rattle.dg_script.specs.declared.line.Line.{Line}
 use Rattle.dg_script.specs.declared.line.Line.TheVariants.{Motes, Boards}
@@ -125,9 +125,12 @@ BegunWritten stop result text before after failed = (result ≡ stop) × (after 
 
 -- items of a line after others were played, and what is reported of them was not all written, since a write failed
 abbrev pub BegunAndCut : (initial : List Device) → (behind : DoneSoFar) → (a b : ReplayState) → Line → Type 0
-BegunAndCut initial behind a b line = LineBegun behind.lines line behind.world a.saw b.saw
+BegunAndCut initial behind a b line =
+    LineBegun behind.lines line behind.world a.saw (going_on b.saw)
     (λ v left t. CutAtStop behind.lines line v left t (span_between initial a b)
-    ⊎ (CutAtTooMany v left t (span_between initial a b) ⊎ CutAtImage v left t (span_between initial a b)))
+    ⊎ CutAtTooMany v left t (span_between initial a b))
+    ⊎ LineBegun behind.lines line behind.world a.saw (ended_saw b.saw)
+    (λ v left t. CutAtImage v left t (span_between initial a b))
 
 -- The result of playing the text of a line after some lines. The player, the boards and what was written are a before it, and b
 -- after it.
@@ -135,24 +138,24 @@ abbrev pub TextAnswer : Baseline → Result (Unit {0}) Stop → LineRead → (be
     → (write_failed : Type 0) → Type 0
 TextAnswer basis (Ok u) read behind a b failed = TextReported basis read.text behind a b
 TextAnswer basis (Err Memory) read behind a b failed = NothingDone a b
-    ⊎ (TextRead read.text a.player (λ line. LineBegun behind.lines line behind.world a.saw b.saw
+    ⊎ (TextRead read.text a.player (λ line. LineBegun behind.lines line behind.world a.saw (going_on b.saw)
     (λ v left t. BoardsStand v basis.boards b.boards)) × (b.written ≡ a.written))
 TextAnswer basis (Err (BadInput line fault)) read behind a b failed = (line ≡ read.number)
     × (line_of a.player.place read.text ≡ Err fault) × NothingDone a b
 TextAnswer basis (Err WriteFault) read behind a b failed = failed × (TextCut basis read.text behind a b
     ⊎ TextRead read.text a.player (BegunAndCut basis.boards behind a b))
 TextAnswer basis (Err FlashFault) read behind a b failed = TextRead read.text a.player (λ line. UsesBoard line
-    × LineBegun behind.lines line behind.world a.saw b.saw (λ v left t.
+    × LineBegun behind.lines line behind.world a.saw (going_on b.saw) (λ v left t.
     StoppedIn (motes_in behind.lines) (line ∷ []) left v basis.boards b.boards × Puts a.written b.written t))
 TextAnswer basis (Err TooMany) read behind a b failed = TextRead read.text a.player (λ line.
-    LineBegun behind.lines line behind.world a.saw b.saw (λ v left t. InSome v (λ u. IsOneTooMany u left)
+    LineBegun behind.lines line behind.world a.saw (going_on b.saw) (λ v left t. InSome v (λ u. IsOneTooMany u left)
     × BoardsStand v basis.boards b.boards × Puts a.written b.written t))
 TextAnswer basis (Err (NoBoard motes boards)) read behind a b failed =
     TextRead read.text a.player (λ line. LacksBoards line motes boards basis.boards a.boards b.boards)
     × (b.written ≡ a.written) × StaysSeen a.saw b.saw
 TextAnswer basis (Err NoImage) read behind a b failed = TextRead read.text a.player (λ line.
-    LineBegun behind.lines line behind.world a.saw b.saw (λ v left t.
-    LacksShown b.saw v left basis.boards b.boards × Puts a.written b.written t))
+    LineBegun behind.lines line behind.world a.saw (ended_saw b.saw) (λ v left t.
+    InSome v (λ u. LacksImage u left basis.boards b.boards) × Puts a.written b.written t))
 TextAnswer basis (Err NotAVolume) read behind a b failed =
     TextRead read.text a.player (λ line. (line ≡ Boards) × NoVolumeIn (motes_in behind.lines) basis.boards b.boards)
     × (b.written ≡ a.written) × StaysSeen a.saw b.saw
@@ -182,7 +185,7 @@ pub record Reached (table : List Row) (ends : Bool) (script : Script) (texts : L
 abbrev pub seen_of : (from : Option World) → (played : List Played) → Saw
 seen_of from played = record {
   events = λ stores events. (stores ≡ stores_in from) × (events ≡ events_played played);
-  ended = λ event. ⊥;
+  ended = λ stores events world step. ⊥;
 }
 
 -- A script was played so far, what was written is a prefix of what is reported of that, and P holds of how far it was played and
@@ -221,47 +224,44 @@ pub record ReportedBefore {table : List Row} {script : Script} (line : ℕ) (c :
   pub more : List ℕ
   pub reported : text ≡ report_of_lines lines c ++ more
 
--- The next item is an event, which finds no image to start, and a watcher was shown that.
-abbrev pub NoImageShown : {table : List Row} {script : Script} → Span → Progress table script → Type 0
-NoImageShown s c = NoImageThere c s.initial s.now × EndShown s.saw c.left
-
--- Why playing a script stops at the line of this number, and how far it came: W holds of that.
-abbrev pub StopsAtText : (table : List Row) → Stop → (script : Script) → (W : Progress table script → Type 0)
+-- Why playing a script stops at the line of this number, and how far it came: W holds of that, and of what a watcher saw of what
+-- was played.
+abbrev pub StopsAtText : (table : List Row) → Stop → (script : Script) → (W : Saw → Progress table script → Type 0)
     → (number : ℕ) → Span → (write_failed : Type 0) → Type 0
 StopsAtText table Memory script W number s failed =
-    PlayedPrefix table script s.initial s.before s.after (λ c text. BoardsStand c.last s.initial s.now × W c)
+    PlayedPrefix table script s.initial s.before s.after (λ c text. BoardsStand c.last s.initial s.now × W s.saw c)
 StopsAtText table (BadInput line fault) script W number s failed = (line ≡ number)
     × PlayedUpTo table script s.initial s.before s.after (λ c. (c.rest ≡ []) × (script.fault ≡ Some (line, fault))
-    × BoardsStand c.last s.initial s.now × HasFew script s.initial × W c)
+    × BoardsStand c.last s.initial s.now × HasFew script s.initial × W s.saw c)
 StopsAtText table WriteFault script W number s failed = failed
     × PlayedPrefix table script s.initial s.before s.after (λ c text. BoardsLeft status.WriteFault c s.initial s.now
-    × ReportedBefore number c text × W c)
+    × ReportedBefore number c text × (W s.saw c ⊎ W (ended_saw s.saw c.last c.left) c))
 StopsAtText table FlashFault script W number s failed =
     PlayedUpTo table script s.initial s.before s.after
     (λ c. ((line : Line) × (more : List Line) × (c.rest ≡ line ∷ more) × UsesBoard line)
-    × BoardStoppedThere c s.initial s.now × W c)
+    × BoardStoppedThere c s.initial s.now × W s.saw c)
 StopsAtText table TooMany script W number s failed =
     PlayedUpTo table script s.initial s.before s.after (λ c. AtTooMany c.left c.played × BoardsStand c.last s.initial s.now
-    × (lacking (length s.initial) script.lines ≡ None) × W c)
+    × (lacking (length s.initial) script.lines ≡ None) × W s.saw c)
 StopsAtText table (NoBoard motes boards) script W number s failed =
     PlayedUpTo table script s.initial s.before s.after
     (λ c. ((boards ≡ length s.initial) × (boards < motes)) × ((more : List Line) × (c.rest ≡ Motes motes ∷ more))
-    × BoardsStand c.last s.initial s.now × (lacking (length s.initial) c.done ≡ None) × W c)
+    × BoardsStand c.last s.initial s.now × (lacking (length s.initial) c.done ≡ None) × W s.saw c)
 StopsAtText table NoImage script W number s failed =
     PlayedUpTo table script s.initial s.before s.after (λ c. ((line : Line) × (more : List Line) × (c.rest ≡ line ∷ more))
-    × UsesBoards c.done × NoImageShown s c
-    × ((more : List ℕ) → ReportedBefore number c (played_text c.played ++ more)) × W c)
+    × UsesBoards c.done × NoImageThere c s.initial s.now
+    × ((more : List ℕ) → ReportedBefore number c (played_text c.played ++ more)) × W (ended_saw s.saw c.last c.left) c)
 StopsAtText table NotAVolume script W number s failed =
     PlayedUpTo table script s.initial s.before s.after (λ c. NoVolumeThere c s.initial s.now
-    × ((more : List ℕ) → ReportedBefore number c (played_text c.played ++ more)) × W c)
+    × ((more : List ℕ) → ReportedBefore number c (played_text c.played ++ more)) × W s.saw c)
 
--- what the boards keep, and that a watcher was shown the events that were played
-abbrev pub IsLeft : {table : List Row} {script : Script} → Span → Progress table script → Type 0
-IsLeft s c = Untouched c s.initial s.now × (s.first.events [] [] → IsSeen s.saw c)
+-- what the boards keep, and that a watcher saw the events that were played
+abbrev pub IsLeft : {table : List Row} {script : Script} → Span → Saw → Progress table script → Type 0
+IsLeft s saw c = Untouched c s.initial s.now × (s.first.events [] [] → IsSeen saw c)
 
 -- the same with this condition
 abbrev pub StopsThere : (table : List Row) → Stop → (script : Script) → (number : ℕ) → Span → (write_failed : Type 0) → Type 0
-StopsThere table stop script number s failed = StopsAtText table stop script (λ c. IsLeft s c) number s failed
+StopsThere table stop script number s failed = StopsAtText table stop script (λ saw c. IsLeft s saw c) number s failed
 
 -- Each line of which something was done is whole among these bytes. The one at which the boards end the replay is whole too.
 abbrev pub IsWholeAt : Stop → (input : List ℕ) → (done rest : List Line) → (begun : List Item) → Type 0
@@ -274,8 +274,8 @@ IsWholeAt stop input done rest begun = DoneIsWhole input done rest begun
 abbrev pub StopsInTaken : (table : List Row) → Stop → (script : Script) → BytesTaken → (number : ℕ) → Span
     → (write_failed : Type 0) → Type 0
 StopsInTaken table stop script taken number s failed =
-    StopsAtText table stop script (λ c. (taken.at_end ⊎ IsWholeAt stop taken.bytes c.done c.rest c.begun) × IsLeft s c) number s
-    failed
+    StopsAtText table stop script
+    (λ saw c. (taken.at_end ⊎ IsWholeAt stop taken.bytes c.done c.rest c.begun) × IsLeft s saw c) number s failed
 
 -- if the rules end the script there, S holds
 abbrev pub ByRules : Stop → Type 0 → Type 0
@@ -291,7 +291,7 @@ InputAnswer table (Ok reached) taken s failed =
     × Reached table true (script_of taken.bytes) [] reached.1 reached.0 s
 InputAnswer table (Err ReadFault) taken s failed = failed.read × (length taken.bytes ≤ most_used_bytes)
     × PlayedUpTo table (script_of taken.bytes) s.initial s.before s.after (λ c. (c.begun ≡ [])
-    × BoardsStand c.last s.initial s.now × AreWhole taken.bytes c.done × AllWhole taken.bytes c.done × IsLeft s c)
+    × BoardsStand c.last s.initial s.now × AreWhole taken.bytes c.done × AllWhole taken.bytes c.done × IsLeft s s.saw c)
 InputAnswer table (Err TooLong) taken s failed = (length taken.bytes ≡ most_used_bytes + 1)
     × ((number : ℕ) × (p : Player) × Reached table false (script_of taken.bytes) [] number p s)
 InputAnswer table (Err (Stopped stop)) taken s failed =
@@ -304,7 +304,7 @@ pub record ReadyToEnd (table : List Row) (script : Script) (ending : Ending) (pi
   pub came : Progress table script
   pub reported : Puts s.before s.after (played_text came.played)
   pub boards : BoardsStand came.last s.initial s.now
-  pub left : IsLeft s came
+  pub left : IsLeft s s.saw came
   pub all : ReachesEnding ending came
   pub line : closing ending came.last ≡ piece
   pub limits : InBounds (length s.initial) came.done (map item_played came.played)
@@ -355,6 +355,6 @@ pub record ScriptReplayed (table : List Row) (status : Status) (script : Script)
   pub limits : InBounds (length s.initial) came.done (map item_played came.played)
   pub stood : UsesBoards came.done → StandFor (motes_in came.done) came.ground.stores s.initial
   pub boards : BoardsLeft status came s.initial s.now
-  pub left : IsLeft s came
+  pub left : Untouched came s.initial s.now × (s.first.events [] [] → IsSeenAs status s.saw came)
   pub caused : IsCaused status ending failed.read failed.write (BoardStopped (motes_in came.done) s.initial s.now)
-      (NoVolumeThere came s.initial s.now) ((UsesBoards came.done) × NoImageShown s came)
+      (NoVolumeThere came s.initial s.now) ((UsesBoards came.done) × NoImageThere came s.initial s.now)

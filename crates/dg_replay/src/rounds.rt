@@ -1,5 +1,5 @@
 //! Plays the events of rounds and sweeps.
-ghost use Rattle.std.specs.Prelude.{◌<◌, ◌≢◌, ◌∷◌, ◌++◌, [], List, Err, map, length};
+ghost use Rattle.std.specs.Prelude.{◌<◌, ◌∷◌, ◌++◌, [], List, map, length};
 ghost use Rattle.std.specs.List.{AllByRecursion};
 ghost use Rattle.dg_nor.specs.Device.{Device};
 ghost use Rattle.dg_object.specs.Sizes.{packets};
@@ -48,7 +48,6 @@ pub fn play_round<N: Nor, W: Watcher<N>>(
         (told_so_far line_report.new.text.items (W.saw watcher.new initial (map N.device boards.new.items)))) }
     ensures kept { KeepBytes (unreported (round a b)) (map N.device boards.old.items)
         (map N.device boards.new.items) }
-    ensures running { result ≢ Err Stop.NoImage → W.running watcher.old → W.running watcher.new }
 {
     play_ticks(world, a, DRAIN_TICKS, boards, line_report, watcher)?;
     play_ticks(world, b, DRAIN_TICKS, boards, line_report, watcher)?;
@@ -78,7 +77,6 @@ fn play_ticks<N: Nor, W: Watcher<N>>(
         (told_so_far line_report.new.text.items (W.saw watcher.new initial (map N.device boards.new.items)))) }
     ensures kept { KeepBytes (unreported (times count (paced mote ∷ []))) (map N.device boards.old.items)
         (map N.device boards.new.items) }
-    ensures running { result ≢ Err Stop.NoImage → W.running watcher.old → W.running watcher.new }
 {
     for _ in 0..count {
         play_tick(world, mote, boards, line_report, watcher)?;
@@ -105,7 +103,6 @@ fn play_tick<N: Nor, W: Watcher<N>>(
         (told_so_far line_report.new.text.items (W.saw watcher.new initial (map N.device boards.new.items)))) }
     ensures kept { KeepBytes (unreported (paced mote ∷ [])) (map N.device boards.old.items)
         (map N.device boards.new.items) }
-    ensures running { result ≢ Err Stop.NoImage → W.running watcher.old → W.running watcher.new }
 {
     let tick = Event::Tick {
         mote,
@@ -135,7 +132,6 @@ fn play_heard<N: Nor, W: Watcher<N>>(
         (told_so_far line_report.new.text.items (W.saw watcher.new initial (map N.device boards.new.items)))) }
     ensures kept { KeepBytes (unreported (passed from to ∷ [])) (map N.device boards.old.items)
         (map N.device boards.new.items) }
-    ensures running { result ≢ Err Stop.NoImage → W.running watcher.old → W.running watcher.new }
 {
     let last = Event::Last {
         from,
@@ -166,7 +162,6 @@ fn play_request<N: Nor, W: Watcher<N>>(
         (told_so_far line_report.new.text.items (W.saw watcher.new initial (map N.device boards.new.items)))) }
     ensures kept { KeepBytes (unreported (passed a b ∷ paced b ∷ passed b a ∷ [])) (map N.device boards.old.items)
         (map N.device boards.new.items) }
-    ensures running { result ≢ Err Stop.NoImage → W.running watcher.old → W.running watcher.new }
 {
     play_heard(world, a, b, boards, line_report, watcher)?;
     play_tick(world, b, boards, line_report, watcher)?;
@@ -194,7 +189,6 @@ fn play_packet<N: Nor, W: Watcher<N>>(
         (told_so_far line_report.new.text.items (W.saw watcher.new initial (map N.device boards.new.items)))) }
     ensures kept { KeepBytes (unreported (paced a ∷ passed a b ∷ [])) (map N.device boards.old.items)
         (map N.device boards.new.items) }
-    ensures running { result ≢ Err Stop.NoImage → W.running watcher.old → W.running watcher.new }
 {
     play_tick(world, a, boards, line_report, watcher)?;
     play_heard(world, a, b, boards, line_report, watcher)?;
@@ -221,7 +215,6 @@ fn play_packets<N: Nor, W: Watcher<N>>(
         (told_so_far line_report.new.text.items (W.saw watcher.new initial (map N.device boards.new.items)))) }
     ensures kept { KeepBytes (unreported (times packets (paced a ∷ passed a b ∷ []))) (map N.device boards.old.items)
         (map N.device boards.new.items) }
-    ensures running { result ≢ Err Stop.NoImage → W.running watcher.old → W.running watcher.new }
 {
     for _ in 0..PACKETS {
         play_packet(world, a, b, boards, line_report, watcher)?;
@@ -248,7 +241,6 @@ fn play_both<N: Nor, W: Watcher<N>>(
         (told_so_far line_report.new.text.items (W.saw watcher.new initial (map N.device boards.new.items)))) }
     ensures kept { KeepBytes (unreported (round a b ++ round b a)) (map N.device boards.old.items)
         (map N.device boards.new.items) }
-    ensures running { result ≢ Err Stop.NoImage → W.running watcher.old → W.running watcher.new }
 {
     play_round(world, a, b, boards, line_report, watcher)?;
     play_round(world, b, a, boards, line_report, watcher)?;
@@ -274,7 +266,6 @@ fn play_sweep<N: Nor, W: Watcher<N>>(
         (told_so_far line_report.new.text.items (W.saw watcher.new initial (map N.device boards.new.items)))) }
     ensures kept { KeepBytes (unreported (sweep links.now)) (map N.device boards.old.items)
         (map N.device boards.new.items) }
-    ensures running { result ≢ Err Stop.NoImage → W.running watcher.old → W.running watcher.new }
 {
     for link in links {
         play_both(world, link.0, link.1, boards, line_report, watcher)?;
@@ -302,7 +293,6 @@ pub fn play_sweeps<N: Nor, W: Watcher<N>>(
         (told_so_far line_report.new.text.items (W.saw watcher.new initial (map N.device boards.new.items)))) }
     ensures kept { KeepBytes (unreported (times count (sweep links.now))) (map N.device boards.old.items)
         (map N.device boards.new.items) }
-    ensures running { result ≢ Err Stop.NoImage → W.running watcher.old → W.running watcher.new }
 {
     for _ in 0..count {
         play_sweep(world, links, boards, line_report, watcher)?;

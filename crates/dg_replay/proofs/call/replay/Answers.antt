@@ -166,7 +166,7 @@ returns-in_default-clause-done g c = λ rest.
 
 pub returns-in_default-clause-seen : goal.returns-in_default-clause-seen
 returns-in_default-clause-seen g c = λ rest table f.
-    (memory_unread _, unread_seen table (g.W.Watcher.saw c.args.watcher.now (map g.N.Nor.device c.args.boards.now.items) (map g.N.Nor.device c.args.boards.now.items)) (script_of []) f, λ is. absurd (cc))
+    (memory_unread _, unread_seen table (g.W.Watcher.saw c.args.watcher.now (map g.N.Nor.device c.args.boards.now.items) (map g.N.Nor.device c.args.boards.now.items)) (script_of []) f)
 
 pub returns-in-Ok-play_lines-clause-buffers : goal.returns-in-Ok-play_lines-clause-buffers
 returns-in-Ok-play_lines-clause-buffers g c = let b = c.a_mote_buffers_little.ensures in (b.alive, b.values)

@@ -11,7 +11,7 @@ use Rattle.dg_replay.proofs.following.play_lines.Goals as goal
 
 pub loop-line_report-init : goal.loop-line_report-init
 loop-line_report-init g c =
-    (lines_first (g.S.Source.left c.args.input.now) c.args.reader.now _ (map g.N.Nor.device c.args.boards.now.items) (g.K.Sink.written c.args.out.now) c.requires.none c.requires.unread c.requires.first c.first-player.ensures, refl, refl, λ before. before)
+    (lines_first (g.S.Source.left c.args.input.now) c.args.reader.now _ (map g.N.Nor.device c.args.boards.now.items) (g.K.Sink.written c.args.out.now) c.requires.none c.requires.unread c.requires.first c.first-player.ensures, refl, refl)
 
 pub play_next-requires : goal.play_next-requires
 play_next-requires g c =
@@ -110,7 +110,6 @@ loop-line_report-preserved g c =
       lines_next (left c.args.input.now) (left c.loop-line_report.input) (left c.play_next.new.input) old new a.0 c.loop-line_report.number p q initial was now (put c.args.out.now) mid after at_end failed i.0 a.1 given.0 more_lines (given.1.0, λ done w table s. given.1.1 table (done_so_far done w) s),
       c.in_ok-play_next.ensures.unread (λ e. cc) ∙ i.1,
       c.in_ok-play_next.ensures.unfailed (λ e. cc) ∙ i.2,
-      λ before. c.in_ok-play_next.ensures.running (λ e. cc) (λ e. cc) (i.3 before),
     )
 
 pub returns-clause-answer : goal.returns-clause-answer

@@ -55,7 +55,7 @@ returns-in-Err-NoImage-clause-played g c = λ w initial is stands.
     let e = c.in-Err-NoImage.ensures.no_image (ap Err c.in-Err-NoImage.field-0-is) w is in
     let few = image_not_full _ w.events (ap Err c.in-Err-NoImage.field-0-is) is.few_events (λ e. c.in-Err-NoImage.ensures.full w is e) in
     ended_in w (step_of c.args.event.now (option_copied c.args.cut)) c.args.reported c.args.world.now initial _ _ c.args.line_report.now.text.items F G c.requires is e
-    (ended_shown w c.args.event.now (option_copied c.args.cut) c.args.world.now initial _ _ S G c.requires is stands few e (rw (← c.as_slice-in-Err-NoImage.ensures.value) (c.ended.ensures.seen initial))) (c.ended.ensures.ended initial (map g.N.Nor.device c.apply_parts.new.boards.items)) stands
+    (ended_shown w c.args.event.now (option_copied c.args.cut) c.args.reported c.args.world.now initial _ _ S G c.requires is stands few e (rw (← c.as_slice-in-Err-NoImage.ensures.value) (c.ended.ensures.seen initial))) stands
 
 pub returns-in-Err-NotAVolume-clause-played : goal.returns-in-Err-NotAVolume-clause-played
 returns-in-Err-NotAVolume-clause-played g c = λ w initial is stands. c.in-Err-NotAVolume.ensures.a_volume (ap Err c.in-Err-NotAVolume.field-0-is)

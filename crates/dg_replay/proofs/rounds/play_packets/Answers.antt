@@ -14,7 +14,6 @@ loop-init g c =
     let told = (told_by c.args.line_report.now.text.items (map g.N.Nor.device c.args.boards.now.items) (g.W.Watcher.saw c.args.watcher.now)) in (
       subst (λ (xs : List Item). PlayedSoFar xs c.args.world.now c.args.world.now boards boards told told) (sym (times_none (paced c.args.a ∷ passed c.args.a c.args.b ∷ []))) (so_far_none c.args.world.now boards told),
       keep_same (unreported (times packets (paced c.args.a ∷ passed c.args.a c.args.b ∷ []))) boards boards refl,
-      λ before. before,
     )
 
 pub play_packet-requires : goal.play_packet-requires
@@ -34,7 +33,6 @@ loop-preserved g c = (
   times_so_far c.loop.counter (paced c.args.a ∷ passed c.args.a c.args.b ∷ []) c.args.world.now c.loop.world c.play_packet.new.world _ _ _ (told_by c.args.line_report.now.text.items (map g.N.Nor.device c.args.boards.now.items) (g.W.Watcher.saw c.args.watcher.now)) (told_by c.loop.line_report.text.items (map g.N.Nor.device c.loop.boards.items) (g.W.Watcher.saw c.loop.watcher)) (told_by c.play_packet.new.line_report.text.items (map g.N.Nor.device c.play_packet.new.boards.items) (g.W.Watcher.saw c.play_packet.new.watcher))
       c.loop.invariant.0 c.in_ok-play_packet.ensures.goes_on c.in_ok-play_packet.ensures.played,
   sweep_keeps c.loop.counter packets (paced c.args.a ∷ passed c.args.a c.args.b ∷ []) _ _ _ c.loop-test.true c.loop.invariant.1 c.in_ok-play_packet.ensures.kept,
-  λ before. c.in_ok-play_packet.ensures.running (λ e. cc) (c.loop.invariant.2 before),
 )
 
 pub returns-clause-played : goal.returns-clause-played

@@ -10,7 +10,7 @@ pub loop-link-init : goal.loop-link-init
 loop-link-init g c =
     let boards = map g.N.Nor.device c.args.boards.now.items in
     let told = (told_by c.args.line_report.now.text.items (map g.N.Nor.device c.args.boards.now.items) (g.W.Watcher.saw c.args.watcher.now)) in
-    (subst (λ (xs : List Item). PlayedSoFar xs c.args.world.now c.args.world.now boards boards told told) (sym sweep_none) (so_far_none c.args.world.now boards told), keep_same (unreported (sweep c.args.links.now)) boards boards refl, λ before. before)
+    (subst (λ (xs : List Item). PlayedSoFar xs c.args.world.now c.args.world.now boards boards told told) (sym sweep_none) (so_far_none c.args.world.now boards told), keep_same (unreported (sweep c.args.links.now)) boards boards refl)
 
 pub play_both-requires : goal.play_both-requires
 play_both-requires g c =
@@ -33,7 +33,6 @@ loop-link-preserved g c =
       sweep_goes_on links i _ c.args.world.now c.loop-link.world c.play_both.new.world _ _ _ (told_by c.args.line_report.now.text.items (map g.N.Nor.device c.args.boards.now.items) (g.W.Watcher.saw c.args.watcher.now)) (told_by c.loop-link.line_report.text.items (map g.N.Nor.device c.loop-link.boards.items) (g.W.Watcher.saw c.loop-link.watcher)) (told_by c.play_both.new.line_report.text.items (map g.N.Nor.device c.play_both.new.boards.items) (g.W.Watcher.saw c.play_both.new.watcher))
           c.loop-link-test.true c.loop-link.invariant.0 c.in_ok-play_both.ensures.goes_on c.in_ok-play_both.ensures.played,
       events_keep (sweep (take i links)) _ (sweep (drop (i + 1) links)) (sweep links) _ _ _ (sweep_at links i _ c.loop-link-test.true) c.loop-link.invariant.1 c.in_ok-play_both.ensures.kept,
-      λ before. c.in_ok-play_both.ensures.running (λ e. cc) (c.loop-link.invariant.2 before),
     )
 
 pub returns-in_err-play_both-clause-kept : goal.returns-in_err-play_both-clause-kept

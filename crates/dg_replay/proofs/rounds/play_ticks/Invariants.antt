@@ -10,4 +10,3 @@ abbrev pub invariant-loop : goal.invariant-loop
 invariant-loop g l =
     PlayedSoFar (unreported (times l.counter (paced l.mote ∷ []))) l.fn.world l.world (map g.N.Nor.device l.fn.boards.items) (map g.N.Nor.device l.boards.items) (told_by l.fn.line_report.text.items (map g.N.Nor.device l.fn.boards.items) (g.W.Watcher.saw l.fn.watcher)) (told_by l.line_report.text.items (map g.N.Nor.device l.boards.items) (g.W.Watcher.saw l.watcher))
     × KeepBytes (unreported (times l.count (paced l.mote ∷ []))) (map g.N.Nor.device l.fn.boards.items) (map g.N.Nor.device l.boards.items)
-    × (g.W.Watcher.running l.fn.watcher → g.W.Watcher.running l.watcher)
