@@ -1,5 +1,5 @@
 -- Counts of a whole run: declarations are not events, and a run has at most `most_events` events.
-use Rattle.std.proofs.Common.{◌≡◌, ◌≢◌, ℕ, ◌+◌, ◌%◌, ◌^◌, ◌<◌, ◌≤◌, Bool, true, false, cond, List, [], ◌∷◌, ◌++◌, get_or, inl, inr, Result, Ok, Err, zero, suc, map, filter, count_by, length, refl, sym, ap, subst, ◌∙◌, arith}
+use Rattle.std.proofs.Common.{◌≡◌, ℕ, ◌+◌, ◌%◌, ◌^◌, ◌<◌, ◌≤◌, Bool, true, false, cond, List, [], ◌∷◌, ◌++◌, get_or, inl, inr, Result, Ok, Err, zero, suc, map, filter, count_by, length, refl, sym, ap, subst, ◌∙◌, arith}
 use Rattle.std.specs.Prelude.{is_some, slice_get, nat_lt, Option, Some, None}
 use Rattle.std.proofs.lemmas.Nat.{mod-mul-add}
 use Rattle.std.proofs.lemmas.Bool.{both_ways, cases_lt, ltb-true, and_parts}
@@ -11,25 +11,21 @@ use Rattle.dg_volume.specs.Table.{row_at}
 use Rattle.dg_rules.specs.Sizes.{most_motes, most_events}
 use Rattle.dg_rules.specs.Runs.{Played, Plays, ItemStep}
 use Rattle.dg_script.specs.Items.{Item, Declares, Applies}
-use Rattle.dg_replay.specs.Items.{beginning_of, is_event, events_among}
-use Rattle.dg_replay.specs.Replayed.{item_played, Progress, IsSeen, IsEndSeen}
-use Rattle.dg_base.specs.declared.answers.Status.{Status}
-use Rattle.dg_base.specs.declared.answers.Status.TheVariants.{NoImage, WriteFault}
+use Rattle.dg_replay.specs.Items.{is_event, events_among}
+use Rattle.dg_replay.specs.Replayed.{item_played}
 use Rattle.dg_base.specs.declared.events.Event.{Event}
 use Rattle.dg_world.specs.Deployments.{Deployment}
 use Rattle.dg_world.specs.declared.world.WorldFault.{WorldFault}
 use Rattle.dg_world.specs.declared.world.WorldFault.TheVariants.{TooMany}
-use Rattle.dg_replay.specs.Shown.{EndShown, stores_in, events_played, LeadTo, IsApplied, IsPlaced}
+use Rattle.dg_replay.specs.Shown.{events_played, LeadTo, IsApplied, IsPlaced}
 use Rattle.dg_events.specs.Noted.{IsEventPlayed}
 use Rattle.dg_events.specs.Told.{Happened, happening}
 use Rattle.dg_events.specs.Counts.{passes, at, count_at, count_all, has_kind, is_refused, is_cut, is_start_by_power, is_start_by_order, is_cut_start_by_power, is_start_of}
 use Rattle.dg_events.specs.Counters.{as_u64, told_count, AreCounts, CountsAre, HasCounted}
 use Rattle.dg_events.specs.Uptimes.{is_on, on_from, ends_on, ms_of, IsBefore, HasTimed}
 use Rattle.dg_events.specs.declared.uptime.Uptimes.{Uptimes}
-use Rattle.dg_count.specs.Chips.{AreTallies}
-use Rattle.dg_count.proofs.ChipLemmas.{have_settled}
-use Rattle.dg_count.specs.Ended.{event_place, IsPlaceOfNext}
-use Rattle.dg_count.specs.Runs.{CountsEvent, IsSeenBy, CountedRun, CountedReplay, placement_of, sight_of}
+use Rattle.dg_count.specs.Ended.{event_place}
+use Rattle.dg_count.specs.Runs.{CountsEvent, IsSeenBy, CountedRun}
 use Rattle.dg_events.specs.declared.event_counts.EventCounts.{EventCounts}
 use Rattle.dg_events.specs.declared.event_counter.EventCounter.{EventCounter}
 use Rattle.dg_events.specs.declared.frame_counter.FrameCounter.{FrameCounter}
@@ -47,11 +43,9 @@ use Rattle.dg_events.proofs.HaveLemmas.{event_tells}
 use Rattle.dg_replay.proofs.ItemLemmas.{step_counts}
 use Rattle.dg_moments.specs.declared.wholes.Wholes.{Wholes}
 use Rattle.dg_world.specs.declared.world.World.{World as CodeWorld}
-use Rattle.dg_count.specs.declared.counter.Counter.{Counter}
 use Rattle.dg_count.specs.declared.place.EventPlace.{EventPlace}
 use Rattle.dg_nor.specs.Device.{Device}
 use Rattle.dg_object.specs.Object.{Row}
-use Rattle.dg_script.specs.Script.{Script}
 use Rattle.dg_script.specs.declared.report.Report.{Report}
 use Rattle.dg_volume.specs.Store.{Store, held, fresh}
 use Rattle.dg_rules.specs.Begins.{store_of}
@@ -369,31 +363,3 @@ pub place_is : (p : EventPlace) (e : Event) → p.mote ≡ mote_of e → p.dt �
 place_is p e mote dt kind =
     ap (λ (n : ℕ). record { mote = n; dt = p.dt; kind = p.kind }) mote ∙ ap (λ (n : ℕ). record { mote = mote_of e; dt = n; kind = p.kind }) dt
     ∙ ap (λ (n : ℕ). record { mote = mote_of e; dt = dt_of e; kind = n }) kind
-
-next_place : (was now : Counter) (initial boards : List Device) (left : List Item) → now.ended ≡ was.ended → EndShown (sight_of was initial boards) left
-    → IsPlaceOfNext left now.ended
-next_place was now initial boards [] same shown = absurd shown
-next_place was now initial boards (Declares row ∷ left) same shown = absurd shown
-next_place was now initial boards (Applies step reported ∷ left) same shown = same ∙ shown
-
--- a replay was seen, and nothing else was noted of its end
-pub replay_seen : {table : List Row} {script : Script} (ran : Status) (was c : Counter) (initial boards : List Device) (came : Progress table script) → events_among (map item_played came.played) ≤ most_events
-    → IsSeen (sight_of c initial boards) came → IsEndSeen ran (sight_of was initial boards) came → c.ended ≡ was.ended → (ran ≢ NoImage → ran ≢ WriteFault → was.ended ≡ None) → AreTallies c.settled boards
-    → CountedReplay ran c boards came
-replay_seen ran was c initial boards came most all end same running are = record {
-  events = run_counted c.events came.played most seen.counted;
-  times = seen.timed;
-  frames = seen.framed;
-  wholes = seen.noted;
-  motes = seen.motes;
-  few = omega (arith, seen.motes, seen.few);
-  ended = λ is. next_place was c initial boards came.left same (end is);
-  running = λ found wrote. same ∙ running found wrote;
-  chips = record {
-    shown = are;
-    made = have_settled (placement_of c) c.settled (length (stores_in (beginning_of came.ground came.done).world)) boards (events_played came.played) seen.few are all.2;
-  };
-}
-  where
-    seen : IsSeenBy c.events c.times c.frames c.wholes c.placed (stores_in (beginning_of came.ground came.done).world) (events_played came.played)
-    seen = all.1

@@ -1,8 +1,7 @@
 -- The event that found no image to start and ended the run, and the counts with it.
-use Rattle.std.specs.Prelude.{◌≡◌, ℕ, ◌+◌, ◌-◌, ◌^◌, ◌==◌, min, if◌then◌else◌, List, [], ◌∷◌, slice_index_or, Option, Some, None}
+use Rattle.std.specs.Prelude.{ℕ, ◌+◌, ◌-◌, ◌^◌, ◌==◌, min, if◌then◌else◌, slice_index_or, Option, Some, None}
 use Rattle.dg_base.specs.declared.events.Event.{Event}
 use Rattle.dg_rules.specs.Events.{mote_of, dt_of}
-use Rattle.dg_script.specs.Items.{Item, Declares, Applies}
 use Rattle.dg_events.specs.Kinds.{event_number}
 use Rattle.dg_events.specs.Uptimes.{with_end}
 use Rattle.dg_events.specs.declared.uptime.Uptimes.{Uptimes}
@@ -15,12 +14,6 @@ use Rattle.dg_count.specs.declared.place.EventPlace.{EventPlace}
 -- the mote, the time step and the kind of an event
 abbrev pub event_place : Event → EventPlace
 event_place e = record { mote = mote_of e; dt = dt_of e; kind = event_number e }
-
--- the first of these items is an event, and this is its place
-abbrev pub IsPlaceOfNext : List Item → Option EventPlace → Type 0
-IsPlaceOfNext [] ended = ⊥
-IsPlaceOfNext (Declares row ∷ more) ended = ⊥
-IsPlaceOfNext (Applies step reported ∷ more) ended = ended ≡ Some (event_place step.event)
 
 -- ---- the counts
 

@@ -1,12 +1,13 @@
 -- The counts of a whole run.
-use Rattle.std.specs.Prelude.{◌≡◌, ◌≢◌, ℕ, ◌+◌, ◌<◌, ◌≤◌, Bool, false, List, [], ◌∷◌, ◌++◌, length, slice_get, Some, None}
+use Rattle.std.specs.Prelude.{◌≡◌, ℕ, ◌+◌, ◌<◌, ◌≤◌, Bool, false, List, ◌∷◌, ◌++◌, [], length, slice_get, Some}
 use Rattle.dg_volume.specs.Store.{Store}
 use Rattle.dg_object.specs.Object.{Row}
 use Rattle.dg_rules.specs.Sizes.{most_motes, most_events}
 use Rattle.dg_rules.specs.Runs.{Played}
+use Rattle.dg_rules.specs.World.{World}
 use Rattle.dg_base.specs.declared.answers.Status.{Status}
-use Rattle.dg_base.specs.declared.answers.Status.TheVariants.{NoImage, WriteFault}
 use Rattle.dg_base.specs.declared.events.Event.{Event}
+use Rattle.dg_base.specs.declared.events.Step.{Step}
 use Rattle.dg_script.specs.Script.{Script}
 use Rattle.dg_script.specs.declared.report.Report.{Report}
 use Rattle.dg_replay.specs.Items.{beginning_of}
@@ -30,8 +31,7 @@ use Rattle.dg_moments.specs.Telling.{BringsWholes, LinesTell}
 use Rattle.dg_moments.specs.declared.wholes.Wholes.{Wholes}
 use Rattle.dg_count.specs.declared.counter.Counter.{Counter}
 use Rattle.dg_events.specs.Made.{operations_at}
-use Rattle.dg_count.specs.Ended.{event_place, IsPlaceOfNext}
-use Rattle.dg_count.specs.Chips.{counts_by, AreTallies, FoundNone, operations_found, Placement, HaveMade}
+use Rattle.dg_count.specs.Chips.{counts_by, AreTallies, Placement, HaveMade, HaveEnded, IsEndNoted, made_at_end}
 
 -- this event, of which these lines are reported, was counted after those that were played before it
 abbrev pub CountsEvent : (before after : EventCounter) → Event → List Report → Type 0
@@ -69,18 +69,27 @@ pub record IsSeenBy (counts : EventCounter) (times : Uptimes) (frames : FrameCou
 abbrev pub placement_of : Counter → Placement
 placement_of c = record { motes = c.placed; formatted = c.formatted; ended = c.ended }
 
--- The counter has counted these events, at motes whose chips began with these stores. What it was given of the boards with which
--- the replay began is what they kept. The boards as they are now show the operations of these events.
+-- The counter has counted these events, at motes whose chips began with these stores, and no event has ended the replay. What it
+-- was given of the boards with which the replay began is what they kept. The boards as they are now show the operations of these
+-- events.
 abbrev pub HasSeen : Counter → (initial now : List Device) → (stores : List Store) → (events : List Played) → Type 0
 HasSeen c initial now stores events = ReadsBoards c.wholes.given.items initial
     × IsSeenBy c.events c.times c.frames c.wholes c.placed stores events
     × HaveMade (placement_of c) (length stores) now events
 
--- what a counter saw: these events, and that this one found no image to start
+-- It has counted these events, and noted the one after them, a step that found no image to start in this world and ended the
+-- replay. The boards show the operations of both.
+abbrev pub HasSeenEnd : Counter → (initial now : List Device) → (stores : List Store) → (events : List Played) → World → Step
+    → Type 0
+HasSeenEnd c initial now stores events w step = ReadsBoards c.wholes.given.items initial
+    × IsSeenBy c.events c.times c.frames c.wholes c.placed stores events
+    × HaveEnded (placement_of c) (length stores) now events w step
+
+-- what a counter saw
 abbrev pub sight_of : Counter → (initial now : List Device) → Saw
 sight_of c initial now = record {
   events = λ stores events. HasSeen c initial now stores events;
-  ended = λ event. c.ended ≡ Some (event_place event);
+  ended = λ stores events w step. HasSeenEnd c initial now stores events w step;
 }
 
 -- Each event that was played was counted once, and no count wrapped.
@@ -92,17 +101,16 @@ pub record CountedRun (c : EventCounter) (played : List Played) : Type 0 where
   pub exact_all : as_u64 (count_all played) ≡ count_all played
 
 -- Since the boards were placed, the operations of what was played were made on the chips of the motes, by the tallies of then
--- and of now, and those of an event that found no image to start, if one ended the replay. Nothing is said of a board that is
--- stopped.
-pub record CountsOperations (c : Counter) (motes : ℕ) (boards : List Device) (events : List Played) : Type 0 where
+-- and of now, and those of the event that ended the replay, if one is noted. Nothing is said of a board that is stopped.
+pub record CountsOperations {table : List Row} {script : Script} (c : Counter) (boards : List Device)
+    (came : Progress table script) : Type 0 where
   pub shown : AreTallies c.settled boards
-  pub made : (m : ℕ) (b : Device) → m < motes → slice_get boards m ≡ Some b → b.stopped ≡ false
-      → (found : List (FoundNone events m)) × (c.ended ≡ None → found ≡ [])
-      × PartsRise (operations_at m events + operations_found found) (counts_by c.formatted m) (counts_by c.settled m)
+  pub made : (m : ℕ) (b : Device) → m < c.placed → slice_get boards m ≡ Some b → b.stopped ≡ false
+      → PartsRise (operations_at m (events_played came.played) + made_at_end c.ended came m) (counts_by c.formatted m)
+      (counts_by c.settled m)
 
--- So was each event that a replay played, at as many motes as there are where its run begins, none before their boards are used.
--- If it ended with NoImage, the event that found no image to start was noted, and only then, or where a write failed. The replay
--- left these boards.
+-- Each event that a replay played was counted, at as many motes as there are where its run begins, none before their boards are
+-- used. An event that found no image to start was noted. The replay left these boards.
 pub record CountedReplay {table : List Row} {script : Script} (ran : Status) (c : Counter) (boards : List Device)
     (came : Progress table script) : Type 0 where
   pub events : CountedRun c.events came.played
@@ -111,7 +119,5 @@ pub record CountedReplay {table : List Row} {script : Script} (ran : Status) (c 
   pub wholes : HasWholes c.wholes (stores_in (beginning_of came.ground came.done).world) (events_played came.played)
   pub motes : c.placed ≡ length (stores_in (beginning_of came.ground came.done).world)
   pub few : c.placed ≤ most_motes
-  pub ended : ran ≡ NoImage → IsPlaceOfNext came.left c.ended
-  pub running : ran ≢ NoImage → ran ≢ WriteFault → c.ended ≡ None
-  pub chips : CountsOperations c (length (stores_in (beginning_of came.ground came.done).world)) boards
-      (events_played came.played)
+  pub ended : IsEndNoted ran came c.ended
+  pub chips : CountsOperations c boards came

@@ -1,5 +1,5 @@
 //! The call that replays a script and counts its events.
-ghost use Rattle.std.specs.Prelude.{◌≡◌, ◌≤◌, [], List, map, None};
+ghost use Rattle.std.specs.Prelude.{◌≤◌, [], List, map};
 ghost use Rattle.dg_object.specs.Object.{Row};
 ghost use Rattle.dg_meter.specs.Meters.{metered_device};
 ghost use Rattle.dg_outside.specs.Outside.{Outside, with_input, with_output, with_boards};
@@ -32,8 +32,7 @@ pub fn replay_counted<S: Source, K: Sink, N: Nor>(
     ensures writes { K.faults out.old ≤ K.faults out.new }
     // each event that was played is counted once, whatever the status, if the counter was given what the boards keep
     ensures counted { HasSeen counter.old (map (metered_device N.device) boards.old.items)
-        (map (metered_device N.device) boards.old.items) [] [] → counter.old.ended ≡ None → (rest : Outside)
-        (table : List Row) → (x : Replayed table result
+        (map (metered_device N.device) boards.old.items) [] [] → (rest : Outside) (table : List Row) → (x : Replayed table result
         (with_boards (map (metered_device N.device) boards.old.items)
         (with_output (K.Sink, out.old) (with_input (S.Source, input.old) rest)))
         (with_boards (map (metered_device N.device) boards.new.items)

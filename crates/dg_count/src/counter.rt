@@ -1,14 +1,16 @@
 //! What is counted of a replay.
-ghost use Rattle.std.specs.Prelude.{◌≡◌, ◌<◌, ◌^◌, true, false, List, [], length, map, None, IfSome};
+ghost use Rattle.std.specs.Prelude.{◌≡◌, ◌<◌, ◌^◌, true, false, List, [], length, map, IfSome};
 ghost use Rattle.dg_volume.specs.Store.{Store};
 ghost use Rattle.dg_rules.specs.Runs.{Played};
+ghost use Rattle.dg_rules.specs.World.{World as RuleWorld};
+ghost use Rattle.dg_base.specs.declared.events.Step.{Step as RuleStep};
 ghost use Rattle.dg_nor.specs.Device.{Device};
 ghost use Rattle.dg_moments.specs.Looking.{ReadsBoards};
 ghost use Rattle.dg_moments.specs.Moments.{is_loaded, newest_at};
 ghost use Rattle.dg_moments.specs.Wholes.{KnowsImage};
 ghost use Rattle.dg_meter.specs.Meters.{metered_device};
 ghost use Rattle.dg_count.specs.Chips.{AreTallies};
-ghost use Rattle.dg_count.specs.Runs.{HasSeen};
+ghost use Rattle.dg_count.specs.Runs.{HasSeen, HasSeenEnd};
 ghost use Rattle.dg_count.specs.Ended.{counts_at, times_until, all_until};
 
 use crate::costs::Costs;
@@ -51,7 +53,6 @@ impl Counter {
     /// Nothing was played. This is given of each board, by its mote: what it keeps, or nothing, if it is no volume.
     pub fn new(alloc: Global, given: Vec<Option<Given>>, timed: bool) -> Counter
         ensures seen { (initial now : List Device) → ReadsBoards given.items initial → HasSeen result initial now [] [] }
-        ensures running { result.ended ≡ None }
     {
         have_lines_tell_what_became_whole();
         Counter {
@@ -79,7 +80,8 @@ impl Counter {
     pub fn settle<N: Nor>(&mut self, boards: &[Metered<N>])
         ensures seen { (initial now : List Device) (stores : List Store) (played : List Played)
             → HasSeen self.old initial now stores played → HasSeen self.new initial now stores played }
-        ensures ended { self.new.ended ≡ self.old.ended }
+        ensures end { (initial now : List Device) (stores : List Store) (played : List Played) (w : RuleWorld) (step : RuleStep)
+            → HasSeenEnd self.old initial now stores played w step → HasSeenEnd self.new initial now stores played w step }
         ensures tallies { AreTallies self.new.settled (map (metered_device N.device) boards.now) }
     {
         self.settled = tallies_of(boards);

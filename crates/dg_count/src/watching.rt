@@ -1,5 +1,5 @@
 //! The watcher of a replay that counts what it is shown.
-ghost use Rattle.std.specs.Prelude.{◌≡◌, false, None, length, map};
+ghost use Rattle.std.specs.Prelude.{◌≡◌, false, length, map};
 ghost use Rattle.dg_meter.specs.Meters.{metered_device};
 ghost use Rattle.dg_events.specs.Frames.{is_hearing};
 ghost use Rattle.dg_count.specs.Runs.{CountsEvent, NotesWholes, TimesEvent, placement_of, sight_of};
@@ -64,8 +64,6 @@ impl<N: Nor> Watcher<Metered<N>> for Counter {
     ghost use Rattle.dg_count.specs.Rests.{have_rested};
 
     ghost saw = { λ counter initial now. sight_of counter initial now };
-
-    ghost running = { λ counter. counter.ended ≡ None };
 
     ghost rests = { λ counter initial old new stores events rested seen.
         (seen.0, seen.1, have_rested (placement_of counter) (length stores) old new events rested seen.2) };
