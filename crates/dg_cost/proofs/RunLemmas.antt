@@ -1,7 +1,7 @@
 -- The rows of a counter are those of the run that it counted.
 use Rattle.std.proofs.Common.{◌≡◌, ℕ, ◌+◌, ◌*◌, ◌-◌, ◌%◌, ◌^◌, ◌<◌, ◌≤◌, ◌==◌, Bool, true, false, cond, List, [], ◌∷◌, length, get_or, set, min, refl, sym, ap, subst, ◌∙◌, arith}
 use Rattle.std.proofs.Common.{zero, suc, Option, Some, None, inl, inr}
-use Rattle.std.specs.Prelude.{IfSome, slice_get, slice_index, slice_index_or}
+use Rattle.std.specs.Prelude.{◌≢◌, IfSome, slice_get, slice_index, slice_index_or}
 use Rattle.std.proofs.lemmas.Nat.{mod-mul-add}
 use Rattle.std.proofs.lemmas.Bool.{cases_lt, cases_eq, eq-eqb, ne_eqb, both_ways}
 use Rattle.std.proofs.lemmas.List.Sums.{sum_by-cons}
@@ -14,13 +14,14 @@ use Rattle.dg_rules.specs.Runs.{Played}
 use Rattle.dg_replay.specs.Items.{beginning_of, is_event}
 use Rattle.dg_replay.specs.Shown.{stores_in, events_played}
 use Rattle.dg_script.specs.Items.{Item, Declares, Applies}
-use Rattle.dg_nor.specs.Device.{Device}
+use Rattle.dg_nor.specs.Device.{Device, PartsRise}
+use Rattle.dg_words.specs.Counts.{Rose}
 use Rattle.dg_outside.specs.Outside.{Outside}
 use Rattle.dg_world.specs.Applied.{SameBoards}
 use Rattle.dg_replay.specs.Done.{ReplayDone}
 use Rattle.dg_replay.specs.Replayed.{Progress, Replayed}
 use Rattle.dg_base.specs.declared.answers.Status.{Status}
-use Rattle.dg_base.specs.declared.answers.Status.TheVariants.{NoImage}
+use Rattle.dg_base.specs.declared.answers.Status.TheVariants.{NoImage, WriteFault}
 use Rattle.dg_events.specs.Told.{Happened}
 use Rattle.dg_events.specs.Uptimes.{ms_before, ms_of, on_ms_of, ends_on, never_on, up_until, with_stop, with_end, IsUptime, HasTimed}
 use Rattle.dg_events.specs.declared.uptime.Uptimes.{Uptimes}
@@ -33,11 +34,11 @@ use Rattle.dg_events.specs.declared.event_counts.EventCounts.{EventCounts}
 use Rattle.dg_events.specs.declared.event_counter.EventCounter.{EventCounter}
 use Rattle.dg_cost_text.specs.Table.{table_of_rows}
 use Rattle.dg_cost_text.specs.declared.rows.Counted.{Counted}
-use Rattle.dg_count.specs.Ended.{IsPlaceOfNext, with_ended, all_until, times_until}
+use Rattle.dg_count.specs.Ended.{with_ended, all_until, times_until}
 use Rattle.dg_events.specs.FrameCounters.{AreFrames, AreFromOutside, no_frames, no_outside}
 use Rattle.dg_cost.proofs.BytesLemmas.{BringFew, bring_few}
 use Rattle.dg_events.specs.Made.{operations_at}
-use Rattle.dg_count.specs.Chips.{no_tally, operations_found}
+use Rattle.dg_count.specs.Chips.{no_tally, counts_by, IsEndNoted, made_at_end}
 use Rattle.dg_cost.proofs.FlashLemmas.{mote_flash}
 use Rattle.dg_cost.proofs.FrameLemmas.{mote_frames}
 use Rattle.dg_cost.proofs.MomentRowLemmas.{newest_are}
@@ -47,7 +48,7 @@ use Rattle.dg_count.specs.declared.counter.Counter.{Counter}
 use Rattle.dg_count.specs.declared.place.EventPlace.{EventPlace}
 use Rattle.dg_cost.specs.EventRows.{HasRows, HasCounts, HasEvents, rows_of_events, rows_of_starts, rows_of_images, passing_counts, and_ended}
 use Rattle.dg_cost.specs.Counting.{IsCountOf, ended_of}
-use Rattle.dg_cost.specs.Costs.{IsEndOf, CountsRun, CountsReplay, IsText, CostWrote, Rehearsed, with_report}
+use Rattle.dg_cost.specs.Costs.{CountsRun, CountsReplay, IsText, CostWrote, Rehearsed, with_report}
 use Rattle.dg_cost.specs.declared.call.Form.{Form}
 use Rattle.dg_cost.specs.declared.call.Form.TheVariants.{Table, Csv, Json, Timed}
 
@@ -152,10 +153,11 @@ mote_times m ms events u table all is has =
 
 -- ---- with the event that ended the run
 
-end_is : {table : List Row} {script : Script} (c : Counter) (ran : Status) (came : Progress table script) → (ran ≡ NoImage → IsPlaceOfNext came.left c.ended)
-    → IsEndOf ran came (ended_of c ran)
-end_is c NoImage came is = is refl
-end_is c _ came is = refl
+end_is : {table : List Row} {script : Script} (c : Counter) (ran : Status) (came : Progress table script) → ran ≢ WriteFault → IsEndNoted ran came c.ended
+    → c.ended ≡ ended_of c ran
+end_is c NoImage came wrote is = refl
+end_is c WriteFault came wrote is = absurd (wrote refl)
+end_is c _ came wrote is = is
 
 events_are : (ended : Option EventPlace) (all : ℕ) (played : List Played) → all ≡ count_all played → count_all played ≤ most_events
     → all_until ended all ≡ events_until ended played
@@ -258,12 +260,12 @@ ms_all (Some place) played = ap (λ (n : ℕ). n + place.dt) (declared_ms played
 -- ---- the counts of a replay
 
 pub run_rows : {table : List Row} {script : Script} (c : Counter) (ran : Status) (came : Progress table script) (boards : List Device) (counted : Counted)
-    → c.frames.lost ≡ false → c.wholes.lost ≡ false → BringFew (events_played came.played) → CountedReplay ran c boards came → IsCountOf c ran counted
+    → ran ≢ WriteFault → c.frames.lost ≡ false → c.wholes.lost ≡ false → BringFew (events_played came.played) → CountedReplay ran c boards came → IsCountOf c ran counted
     → CountsRun ran came boards counted
-run_rows c ran came boards counted kept whole short replay is = record {
+run_rows c ran came boards counted wrote kept whole short replay is = record {
   motes = is.motes ∙ replay.motes;
   ended = ended_of c ran;
-  is_end = end_is c ran came replay.ended;
+  is_end = subst (λ (o : Option EventPlace). IsEndNoted ran came o) (end_is c ran came wrote replay.ended) replay.ended;
   last =
       subst (λ (rows : List (List ℕ × ℕ)). HasRows rows (table_of_rows counted.all))
       (ap (λ (n : ℕ). rows_of_moment n (times_until (ended_of c ran) c.times).ms)
@@ -292,12 +294,10 @@ run_rows c ran came boards counted kept whole short replay is = record {
   flash = λ m board rows there here awake.
       let lt : m < length (stores_in (beginning_of came.ground came.done).world) =
       omega (arith, get_within counted.motes.items m rows there, is.motes, replay.motes) in
-      let made = replay.chips.made m board lt here awake in (
-        made.0,
-        (λ image wrote. made.1 (replay.running image wrote)),
-        mote_flash (slice_index_or c.formatted m no_tally) (slice_index_or c.settled m no_tally) (operations_at m (events_played came.played) + operations_found made.0) board.made
-            (table_of_rows rows) (replay.chips.shown m board (omega (arith, lt, replay.motes, replay.few)) here) made.2 (is.flash m rows there),
-      );
+      mote_flash (slice_index_or c.formatted m no_tally) (slice_index_or c.settled m no_tally) (operations_at m (events_played came.played) + made_at_end (ended_of c ran) came m) board.made
+      (table_of_rows rows) (replay.chips.shown m board (omega (arith, lt, replay.motes, replay.few)) here)
+      (subst (λ (o : Option EventPlace). PartsRise (operations_at m (events_played came.played) + made_at_end o came m) (counts_by c.formatted m) (counts_by c.settled m))
+      (end_is c ran came wrote replay.ended) (replay.chips.made m board (omega (arith, lt, replay.motes)) here awake)) (is.flash m rows there);
   moments = record {
     wholes = c.wholes;
     kept = whole;
@@ -327,9 +327,9 @@ SeenReplay c ran a b = (table : List Row) → (x : Replayed table ran a b) × Co
 
 -- what a counter costs besides does not matter
 cost_shows : (asked : Form) (c : Counter) (costs : Costs) (ran : Status) (a b : Outside) (report text : List ℕ)
-    → c.frames.lost ≡ false → c.wholes.lost ≡ false → SeenReplay c ran a b → IsText asked (IsCountOf (record c { costs = costs }) ran) report text
+    → ran ≢ WriteFault → c.frames.lost ≡ false → c.wholes.lost ≡ false → SeenReplay c ran a b → IsText asked (IsCountOf (record c { costs = costs }) ran) report text
     → IsText asked (CountsReplay ran a b) report text
-cost_shows asked c costs ran a b report text kept whole seen is =
+cost_shows asked c costs ran a b report text wrote kept whole seen is =
     text_shows asked (IsCountOf (record c { costs = costs }) ran) (CountsReplay ran a b) report text shows is
   where
     same : (table : List Row) → CountedReplay ran (record c { costs = costs }) b.boards (seen table).0.came
@@ -341,23 +341,31 @@ cost_shows asked c costs ran a b report text kept whole seen is =
       motes = (seen table).1.motes;
       few = (seen table).1.few;
       ended = (seen table).1.ended;
-      running = (seen table).1.running;
       chips = record { shown = (seen table).1.chips.shown; made = (seen table).1.chips.made };
     }
 
     shows : (counted : Counted) → IsCountOf (record c { costs = costs }) ran counted → CountsReplay ran a b counted
     shows counted has table =
-        ((seen table).0, run_rows (record c { costs = costs }) ran (seen table).0.came b.boards counted kept whole (bring_few (seen table).0.input (seen table).0.came) (same table) has)
+        ((seen table).0, run_rows (record c { costs = costs }) ran (seen table).0.came b.boards counted wrote kept whole (bring_few (seen table).0.input (seen table).0.came) (same table) has)
+
+-- a report was kept, and no write of it failed
+all_kept : (ran : Status) (a b : Outside) (kept report : List ℕ) (faults : ℕ) (before after : List Device) → faults ≤ 0
+    → ReplayDone ran (with_report kept 0 before a) (with_report report faults after b) → ran ≢ WriteFault
+all_kept ran a b kept report faults before after none done wrote =
+    let failed : ReplayDone WriteFault (with_report kept 0 before a) (with_report report faults after b) =
+    subst (λ (s : Status). ReplayDone s (with_report kept 0 before a) (with_report report faults after b)) wrote done in
+    let rose : Rose 0 faults = (failed.replayed []).caused in
+    omega (arith, none, rose)
 
 -- A report was kept from none on, and the text was made of it and of the counts.
 pub rehearsed : (asked : Form) (c : Counter) (costs : Costs) (ran status : Status) (a b : Outside) (kept report shown text : List ℕ)
-    (faults : ℕ) (before after : List Device) → SameBoards a.boards before → SameBoards after b.boards → c.frames.lost ≡ false
+    (faults : ℕ) (before after : List Device) → SameBoards a.boards before → SameBoards after b.boards → faults ≤ 0 → c.frames.lost ≡ false
     → c.wholes.lost ≡ false → kept ≡ [] → shown ≡ report
     → ReplayDone ran (with_report kept 0 before a) (with_report report faults after b)
     → SeenReplay c ran (with_report kept 0 before a) (with_report report faults after b)
     → IsText asked (IsCountOf (record c { costs = costs }) ran) shown text → CostWrote ran status text a b
     → Rehearsed asked status a b
-rehearsed asked c costs ran status a b kept report shown text faults before after first last valid whole none same done seen is wrote = record {
+rehearsed asked c costs ran status a b kept report shown text faults before after first last unfailed valid whole none same done seen is wrote = record {
   ran = ran;
   report = report;
   faults = faults;
@@ -366,8 +374,9 @@ rehearsed asked c costs ran status a b kept report shown text faults before afte
   read_first = first;
   read_last = last;
   replayed = subst (λ (xs : List ℕ). ReplayDone ran (with_report xs 0 before a) end) none done;
+  kept = all_kept ran a b kept report faults before after unfailed done;
   text = text;
-  is_text = cost_shows asked c costs ran (with_report [] 0 before a) end report text valid whole
+  is_text = cost_shows asked c costs ran (with_report [] 0 before a) end report text (all_kept ran a b kept report faults before after unfailed done) valid whole
       (subst (λ (xs : List ℕ). SeenReplay c ran (with_report xs 0 before a) end) none seen)
       (subst (λ (xs : List ℕ). IsText asked (IsCountOf (record c { costs = costs }) ran) xs text) same is);
   wrote = wrote;

@@ -1,10 +1,10 @@
 -- All that is promised of a replay that writes what it costs (docs/COMMANDS.md, "What a script costs").
-use Rattle.std.specs.Prelude.{◌≡◌, ◌≢◌, false, ◌⊎◌, ℕ, ◌+◌, map, List, [], Some, None, Option, length, slice_get}
+use Rattle.std.specs.Prelude.{◌≡◌, ◌≢◌, false, ◌⊎◌, ℕ, ◌+◌, map, List, [], Some, Option, length, slice_get}
 use Rattle.std.specs.List.{range_with_len}
 use Rattle.dg_words.specs.Counts.{Rose}
 use Rattle.dg_base.specs.Outside.{Puts, PutsPrefix}
 use Rattle.dg_base.specs.declared.answers.Status.{Status}
-use Rattle.dg_base.specs.declared.answers.Status.TheVariants.{Memory, WriteFault, NoImage}
+use Rattle.dg_base.specs.declared.answers.Status.TheVariants.{Memory, WriteFault}
 use Rattle.dg_nor.specs.Device.{Device}
 use Rattle.dg_object.specs.Object.{Row}
 use Rattle.dg_rules.specs.Runs.{Played}
@@ -26,8 +26,7 @@ use Rattle.dg_moments.specs.Moments.{loaded_images, newest_at}
 use Rattle.dg_moments.specs.Wholes.{HasWholes}
 use Rattle.dg_moments.specs.declared.wholes.Wholes.{Wholes}
 use Rattle.dg_events.specs.Made.{operations_at}
-use Rattle.dg_count.specs.Chips.{FoundNone, operations_found}
-use Rattle.dg_count.specs.Ended.{IsPlaceOfNext}
+use Rattle.dg_count.specs.Chips.{IsEndNoted, made_at_end}
 use Rattle.dg_count.specs.declared.place.EventPlace.{EventPlace}
 use Rattle.dg_cost.specs.EventRows.{HasRows, HasEvents}
 use Rattle.dg_cost.specs.TimeRows.{time_rows, moment_rows}
@@ -48,12 +47,6 @@ pub record HasMomentRows (stores : List Store) (events : List Played) (counted :
   pub newest_are : newest ≡ map (λ (i : ℕ). newest_at stores events (i + 1)) (range_with_len 0 loaded_images)
   pub all : HasAllRows wholes.all newest (table_of_rows counted.all)
 
--- A replay ended with this status. If that is NoImage, this is the mote, the time step and the kind of the event that found no
--- image to start, which is the next one of the script. Otherwise there is no such event.
-abbrev pub IsEndOf : {table : List Row} {script : Script} → Status → Progress table script → Option EventPlace → Type 0
-IsEndOf NoImage came ended = IsPlaceOfNext came.left ended
-IsEndOf ran came ended = ended ≡ None
-
 -- The counts of a replay that ended with this status: a table for each mote whose board was used, with the rows of the events
 -- that were played there. Where the replay ended since an event found no image to start, that event counts too. The replay left
 -- these boards.
@@ -61,7 +54,7 @@ pub record CountsRun {table : List Row} {script : Script} (ran : Status) (came :
     (counted : Counted) : Type 0 where
   pub motes : length counted.motes.items ≡ length (stores_in (beginning_of came.ground came.done).world)
   pub ended : Option EventPlace
-  pub is_end : IsEndOf ran came ended
+  pub is_end : IsEndNoted ran came ended
   pub last : HasRows (moment_rows ended came.played) (table_of_rows counted.all)
   pub times : (m : ℕ) (rows : Rows) → slice_get counted.motes.items m ≡ Some rows
       → HasRows (time_rows ended m (events_played came.played)) (table_of_rows rows)
@@ -69,12 +62,11 @@ pub record CountsRun {table : List Row} {script : Script} (ran : Status) (came :
       → HasEvents ended m came.played (table_of_rows rows)
   pub frames : (m : ℕ) (rows : Rows) → slice_get counted.motes.items m ≡ Some rows
       → HasFrameRows m (events_played came.played) (table_of_rows rows)
-  -- the operations of the trails of what was played, and those of an event that found no image to start, if one ended the run:
+  -- the operations of the trails of what was played, and those of the event that ended the run, if it found no image to start:
   -- nothing is said of a mote whose board is stopped
   pub flash : (m : ℕ) (board : Device) (rows : Rows) → slice_get counted.motes.items m ≡ Some rows
-      → slice_get boards m ≡ Some board → board.stopped ≡ false → (found : List (FoundNone (events_played came.played) m))
-      × (ran ≢ NoImage → ran ≢ WriteFault → found ≡ [])
-      × HasFlashRows (operations_at m (events_played came.played) + operations_found found) board.made (table_of_rows rows)
+      → slice_get boards m ≡ Some board → board.stopped ≡ false
+      → HasFlashRows (operations_at m (events_played came.played) + made_at_end ended came m) board.made (table_of_rows rows)
   pub moments : HasMomentRows (stores_in (beginning_of came.ground came.done).world) (events_played came.played) counted
 
 -- whichever table the boards are checked against, these are the counts of that replay
@@ -110,6 +102,8 @@ pub record Rehearsed (asked : Form) (status : Status) (a b : Outside) : Type 0 w
   pub read_first : SameBoards a.boards before
   pub read_last : SameBoards after b.boards
   pub replayed : ReplayDone ran (with_report [] 0 before a) (with_report report faults after b)
+  -- all of it was kept
+  pub kept : ran ≢ WriteFault
   pub text : List ℕ
   pub is_text : IsText asked
       (CountsReplay ran (with_report [] 0 before a) (with_report report faults after b)) report text

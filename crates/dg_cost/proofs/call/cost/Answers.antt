@@ -17,8 +17,8 @@ returns-in-Ok-write-clause-done g c = λ rest.
     inr (rehearsed c.args.asked.now c.replay_counted-status.new.counter c.look_again.new.costs ran ran a b c.new.result.items
     c.replay_counted-status.new.out.bytes.items c.as_slice.result.now c.in-Ok-text_of.text.items
     c.replay_counted-status.new.out.faults (map device c.look.new.boards.items)
-    (map device c.replay_counted-status.new.boards.items) c.look.ensures.read c.look_again.ensures.read (c.failed.ensures.frames c.if-failed.false) (c.failed.ensures.wholes c.if-failed.false) c.new.ensures.items c.as_slice.ensures.value
-    (c.replay_counted-status.ensures.done rest) (c.replay_counted-status.ensures.counted (c.new-counter.ensures.seen (map device c.look.new.boards.items) (map device c.look.new.boards.items) c.in-Ok.ensures.given) c.new-counter.ensures.running rest)
+    (map device c.replay_counted-status.new.boards.items) c.look.ensures.read c.look_again.ensures.read c.if-report-gt0.false (c.failed.ensures.frames c.if-failed.false) (c.failed.ensures.wholes c.if-failed.false) c.new.ensures.items c.as_slice.ensures.value
+    (c.replay_counted-status.ensures.done rest) (c.replay_counted-status.ensures.counted (c.new-counter.ensures.seen (map device c.look.new.boards.items) (map device c.look.new.boards.items) c.in-Ok.ensures.given) rest)
     c.in-Ok-text_of.ensures (inl (
       refl,
       subst (λ (bytes : List ℕ). Puts a.output.written b.output.written bytes) c.deref.ensures.value
@@ -36,8 +36,8 @@ returns-in-Ok-text_of-clause-done g c = λ rest.
     inr (rehearsed c.args.asked.now c.replay_counted-status.new.counter c.look_again.new.costs ran WriteFault a b c.new.result.items
     c.replay_counted-status.new.out.bytes.items c.as_slice.result.now c.in-Ok-text_of.text.items
     c.replay_counted-status.new.out.faults (map device c.look.new.boards.items)
-    (map device c.replay_counted-status.new.boards.items) c.look.ensures.read c.look_again.ensures.read (c.failed.ensures.frames c.if-failed.false) (c.failed.ensures.wholes c.if-failed.false) c.new.ensures.items c.as_slice.ensures.value
-    (c.replay_counted-status.ensures.done rest) (c.replay_counted-status.ensures.counted (c.new-counter.ensures.seen (map device c.look.new.boards.items) (map device c.look.new.boards.items) c.in-Ok.ensures.given) c.new-counter.ensures.running rest)
+    (map device c.replay_counted-status.new.boards.items) c.look.ensures.read c.look_again.ensures.read c.if-report-gt0.false (c.failed.ensures.frames c.if-failed.false) (c.failed.ensures.wholes c.if-failed.false) c.new.ensures.items c.as_slice.ensures.value
+    (c.replay_counted-status.ensures.done rest) (c.replay_counted-status.ensures.counted (c.new-counter.ensures.seen (map device c.look.new.boards.items) (map device c.look.new.boards.items) c.in-Ok.ensures.given) rest)
     c.in-Ok-text_of.ensures (inr (
       refl,
       subst (λ (bytes : List ℕ). PutsPrefix a.output.written b.output.written bytes) c.deref.ensures.value
